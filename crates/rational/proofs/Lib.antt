@@ -1,0 +1,3 @@
+pub mod SumLaws
+pub mod FieldLaws
+pub mod ProductOrder
