@@ -1,0 +1,15 @@
+pub mod Bits
+pub mod Combination
+pub mod Coprime
+pub mod Euclid
+pub mod Floors
+pub mod Lowest
+pub mod Products
+pub mod Reciprocals
+pub mod Scaled
+pub mod Seen
+pub mod Split
+pub mod Sums
+pub mod Whole
+pub mod Widths
+pub mod Zero
