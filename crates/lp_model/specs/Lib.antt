@@ -1,0 +1,12 @@
+pub mod Deck
+pub mod Certificate
+pub mod Instance
+pub mod State
+pub mod Solution
+pub mod Step
+pub mod Run
+pub mod Outcome
+pub mod Listing
+pub mod Edit
+pub mod Tableau
+pub mod Simple
