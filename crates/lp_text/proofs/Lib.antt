@@ -1,0 +1,4 @@
+pub mod LinesLemmas
+pub mod PlainSimple
+mod WorkedDecks
+mod WorkedCards

@@ -1,0 +1,9 @@
+pub mod Lines
+pub mod LineText
+pub mod Cards
+pub mod Fraction
+pub mod Report
+pub mod Words
+pub mod Refusals
+pub mod PlainCards
+pub mod PlainDeck
