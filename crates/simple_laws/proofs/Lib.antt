@@ -1,0 +1,15 @@
+pub mod Whole
+pub mod Limits
+pub mod Pivots
+pub mod Tables
+pub mod Made
+pub mod Moved
+pub mod Listing
+pub mod Complete
+pub mod Optimum
+pub mod Endless
+pub mod Least
+pub mod Unfit
+pub mod Feasible
+pub mod Weak
+pub mod Proved
