@@ -1,0 +1,5 @@
+pub mod Adapted
+pub mod Bytes
+pub mod Count
+pub mod MemSink
+pub mod MemSource
