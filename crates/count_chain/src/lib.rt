@@ -1,0 +1,236 @@
+//! Chains of counts: the items of each count in a list of their own, with a move from list to list in constant time.
+//!
+//! Where rows are chosen by the number of their entries, those of each number stand in one list. A row whose
+//! number changes is shifted to the end of another list, and no call looks through a list or takes memory.
+//!
+//! **Model.** [`CountChain`] is seen as the number of its items and a list of lists, the items of each count in
+//! order. An item stands in one list at most, and there once (`IsChained` in `specs/Chains.antt`).
+//!
+//! **Contract.** `place` appends an item that is in no list, `unlink` takes one out, and `shift` does both. Each
+//! says what all lists are afterwards, and sets at most eight links, counted by `steps`: no other way of this
+//! crate sets a link than `Links::join`, which counts.
+//!
+//! It stands on `chain_links`: each count's list is a ring through a node of its own, behind the items' nodes.
+//! An item in no list is linked to itself.
+//!
+//! Method: lists of rows and of columns with equally many entries, as in Duff, Erisman and Reid, Direct Methods
+//! for Sparse Matrices, chapter 10 (the search for a Markowitz pivot).
+
+#![tactic(auto)]
+
+ghost use Rattle.std.specs.Prelude.{◌≡◌, ◌+◌, ◌<◌, ◌≤◌, [], length, ◌↔◌, IfOk, IfSome, IsSome, IsTrue, replicate, slice_get, ℕ};
+ghost use Rattle.std.specs.List.{Contains};
+ghost use Rattle.chain_links.specs.Lists.{after};
+ghost use Rattle.count_chain.specs.Chains.{list_at, IsPlaced, with_item, without_item, IsChained};
+
+use chain_links::Links;
+pub use no_memory::Memory;
+use std::alloc::Global;
+use std::marker::Model;
+use std::sync::ledger::Ledger;
+use step_counter::Steps;
+
+/// Items 0 to n − 1, each in the list of one count or in none.
+#[derive(Drop)]
+pub struct CountChain {
+    items: usize,
+    counts: usize,
+    links: Links,
+}
+
+impl Model for CountChain {
+    ghost use Rattle.count_chain.specs.Chains.{Chains, chains_of, IsLinked};
+
+    ghost Value = { Chains };
+
+    ghost view = { λ a. chains_of a.links a.items a.counts };
+
+    ghost invariant = { λ a. IsLinked a.links a.items a.counts };
+}
+
+impl CountChain {
+    /// Chains for the items below `items` and the counts below `counts`, with nothing placed.
+    pub fn new(alloc: Global, items: usize, counts: usize) -> Result<CountChain, Memory>
+        ensures { IfOk result (λ chain. chain ≡ record { items = items; lists = replicate counts [] }) }
+    {
+        let nodes = items.checked_add(counts).ok_or(Memory)?;
+        let links = Links::loops(alloc, nodes)?;
+        Ok(CountChain {
+            items,
+            counts,
+            links,
+        })
+    }
+
+    /// The first item of the list of `count`.
+    pub fn first(&self, count: usize) -> Option<usize>
+        requires { count < length self.now.lists }
+        ensures first { result ≡ slice_get (list_at self.now count) 0 }
+        ensures item { IfSome result (λ i. i < self.now.items) }
+        ensures chained { IsChained self.now }
+    {
+        let node = self.links.next(self.items + count);
+        if node < self.items { Some(node) } else { None }
+    }
+
+    /// The item behind item `i` in its list.
+    pub fn next(&self, i: usize) -> Option<usize>
+        requires { i < self.now.items }
+        ensures next { (c : ℕ) → Contains (list_at self.now c) i → result ≡ after i (list_at self.now c) }
+        ensures placed { IsSome result → IsPlaced self.now i }
+        ensures item { IfSome result (λ behind. behind < self.now.items) }
+        ensures chained { IsChained self.now }
+    {
+        let node = self.links.next(i);
+        if node < self.items && node != i {
+            Some(node)
+        } else {
+            None
+        }
+    }
+
+    /// Whether item `i` is in a list.
+    pub fn is_placed(&self, i: usize) -> bool
+        requires { i < self.now.items }
+        ensures { IsTrue result ↔ IsPlaced self.now i }
+    {
+        self.links.next(i) != i
+    }
+
+    /// Puts item `i`, which is in no list, at the end of the list of `count`.
+    pub fn place<L: Ledger>(&mut self, i: usize, count: usize, steps: &mut Steps<L>)
+        requires item { i < self.old.items }
+        requires count { count < length self.old.lists }
+        requires loose { ¬ IsPlaced self.old i }
+        ensures placed { self.new ≡ with_item self.old i count }
+        ensures chained { IsChained self.new }
+        ensures steps { steps.new ≤ steps.old + 4 }
+    {
+        let end = self.items + count;
+        let last = self.links.prev(end);
+        self.links.join(last, i, steps);
+        self.links.join(i, end, steps);
+    }
+
+    /// Takes item `i` out of its list.
+    pub fn unlink<L: Ledger>(&mut self, i: usize, steps: &mut Steps<L>)
+        requires { IsPlaced self.old i }
+        ensures unlinked { self.new ≡ without_item self.old i }
+        ensures was_chained { IsChained self.old }
+        ensures chained { IsChained self.new }
+        ensures steps { steps.new ≤ steps.old + 4 }
+    {
+        let before = self.links.prev(i);
+        let behind = self.links.next(i);
+        self.links.join(before, behind, steps);
+        self.links.join(i, i, steps);
+    }
+
+    /// Takes item `i` out of its list and puts it at the end of the list of `count`.
+    pub fn shift<L: Ledger>(&mut self, i: usize, count: usize, steps: &mut Steps<L>)
+        requires count { count < length self.old.lists }
+        requires placed { IsPlaced self.old i }
+        ensures shifted { self.new ≡ with_item (without_item self.old i) i count }
+        ensures chained { IsChained self.new }
+        ensures steps { steps.new ≤ steps.old + 8 }
+    {
+        self.unlink(i, steps);
+        self.place(i, count, steps);
+    }
+}
+
+#[cfg(test)]
+mod tests {
+    use super::*;
+    use std::alloc::AllocError;
+    use std::marker::Brand;
+    use std::process::Abort;
+    use std::sync::ledger::Blank;
+    use std::test::Fail;
+
+    const ITEMS: usize = 7;
+
+    const COUNTS: usize = 4;
+
+    // Puts item `i` at the end of a count's list, wherever it stands, or takes it out where there is no such count.
+    fn put<L: Ledger>(chain: &mut CountChain, i: usize, count: usize, steps: &mut Steps<L>)
+        requires item { i < chain.old.items }
+        requires counts { length chain.old.lists ≡ COUNTS }
+        ensures items { chain.new.items ≡ chain.old.items }
+        ensures counts { length chain.new.lists ≡ length chain.old.lists }
+    {
+        if chain.is_placed(i) {
+            if count < COUNTS {
+                chain.shift(i, count, steps);
+            } else {
+                chain.unlink(i, steps);
+            }
+        } else if count < COUNTS {
+            chain.place(i, count, steps);
+        }
+    }
+
+    // The counts with their items, by following the chains.
+    fn followed(alloc: Global, chain: &CountChain) -> Result<Vec<(usize, usize)>, AllocError>
+        requires { length chain.now.lists ≡ COUNTS }
+    {
+        let mut pairs = Vec::new(alloc);
+        for count in 0..COUNTS {
+            let mut at = chain.first(count);
+            for _ in 0..ITEMS {
+                let Some(i) = at else { break };
+                pairs.push((count, i))?;
+                at = chain.next(i);
+            }
+        }
+        Ok(pairs)
+    }
+
+    // Makes each call on chains and on a plain list of counts with items, and compares the two after it.
+    fn play<L: Ledger>(
+        rt: &impl Abort,
+        alloc: Global,
+        calls: &[(usize, usize)],
+        blank: Blank,
+    ) -> Result<Vec<(usize, usize)>, Fail>
+        requires name { blank.name ≡ L.name }
+        requires parts { blank.parts ≡ L.parts }
+        requires some { 0 < blank.parts }
+    {
+        let mut steps = Steps::<L>::new(blank);
+        let mut chain = CountChain::new(alloc, ITEMS, COUNTS)?;
+        let mut plain: Vec<(usize, usize)> = Vec::new(alloc);
+        for (i, count) in calls {
+            let (i, count) = (*i % ITEMS, *count % (COUNTS + 1));
+            put(&mut chain, i, count, &mut steps);
+            plain.retain(|pair| pair.1 != i);
+            if count < COUNTS {
+                plain.push((count, i))?;
+                plain.sort_by_key(|pair| pair.0)?;
+            }
+            assert_eq!(rt; followed(alloc, &chain)?.as_slice(), plain.as_slice());
+        }
+        Ok(plain)
+    }
+
+    #[test]
+    fn chains_are_lists(rt: HostRuntime) -> Result<(), Fail> {
+        let alloc = rt.alloc();
+        let placed = play::<Brand>(&rt, alloc, &[(0, 2), (2, 1), (1, 2)], Blank::new(1))?;
+        assert_eq!(rt; placed.as_slice(), [(1, 2), (2, 0), (2, 1)].as_slice());
+        let shifted = play::<Brand>(&rt, alloc, &[(0, 2), (2, 1), (1, 2), (0, 1)], Blank::new(1))?;
+        assert_eq!(rt; shifted.as_slice(), [(1, 2), (1, 0), (2, 1)].as_slice());
+        // two thousand calls, drawn by a linear congruential generator
+        let mut drawn = Vec::new(alloc);
+        let mut draw: u64 = 1;
+        for _ in 0..2000 {
+            draw = (draw % (1 << 31)) * 1_103_515_245 + 12345;
+            drawn.push((
+                (draw >> 8) as usize % ITEMS,
+                (draw >> 16) as usize % (COUNTS + 1),
+            ))?;
+        }
+        let _ = play::<Brand>(&rt, alloc, &drawn, Blank::new(1))?;
+        Ok(())
+    }
+}
