@@ -1,0 +1,6 @@
+use Rattle.std.proofs.Common.{sym, ◌∙◌}
+use Rattle.deck_model.proofs.Seen.{find_column-shown}
+use Rattle.deck_model.proofs.deck.Deck.find_column.Goals as goal
+
+pub returns : goal.returns
+returns c = c.get_index_of.ensures.index ∙ sym (find_column-shown c.self.inside c.args.self.now c.self.view_is c.args.name.now)

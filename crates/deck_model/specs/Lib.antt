@@ -1,0 +1,5 @@
+pub mod Code
+pub mod End
+pub mod Named
+pub mod Outcome
+pub mod Parts
