@@ -1,0 +1,179 @@
+// Writing a report.
+ghost use Rattle.std.specs.Prelude.{◌≡◌, ◌<◌, ◌≤◌, [], ◌∷◌, length, get_or, map, OnOk, IsErrOf};
+ghost use Rattle.io_ends.specs.Bytes.{Appends, AppendsPrefix};
+ghost use Rattle.io_ends.specs.Count.{Rose};
+ghost use Rattle.lp_text.specs.Report.{entry_line, log_lines, outcome_lines, report_lines, value_lines};
+ghost use Rattle.deck_model.specs.Outcome.{HasLengthsOf, outcome_of};
+ghost use Rattle.cert_text.specs.Line.{line_text};
+ghost use Rattle.cert_text.specs.Names.{names_of};
+ghost use Rattle.cert_text.specs.Report.{text_of_report};
+ghost use Rattle.cert_text.specs.Writes.{Writes};
+
+use crate::fault::ReportWriteFault;
+use crate::line::Line;
+use crate::report::Report;
+use deck_model::{Deck, Entry, Outcome};
+use exact_frac::Fracs;
+use io_ends::{Sink, write_all};
+use std::alloc::Global;
+
+/// Writes the report of a deck, each line as one piece.
+///
+/// # Errors
+///
+/// `Write` where the sink failed, and `Memory` for want of memory. The sink has then gained a beginning of the report.
+pub fn write_report<K: Sink>(
+    alloc: Global,
+    deck: &Deck,
+    report: &Report,
+    out: &mut K,
+) -> Result<(), ReportWriteFault>
+    requires { HasLengthsOf deck.now (outcome_of report.now.outcome) }
+    ensures appended { OnOk result (Appends (K.contents out.old) (K.contents out.new) (text_of_report deck.now report.now)) }
+    ensures stays { OnOk result (K.fault_count out.new ≡ K.fault_count out.old) }
+
+    ensures part { AppendsPrefix (K.contents out.old) (K.contents out.new) (text_of_report deck.now report.now) }
+    ensures write { IsErrOf result ReportWriteFault.Write → Rose (K.fault_count out.old) (K.fault_count out.new) }
+    ensures memory { IsErrOf result ReportWriteFault.Memory → K.fault_count out.new ≡ K.fault_count out.old }
+    ensures never_falls { K.fault_count out.old ≤ K.fault_count out.new }
+{
+    let mut buffer = Vec::new(alloc);
+    write_lines(&mut buffer, deck, report, out)
+}
+
+// Writes all lines of a report.
+fn write_lines<K: Sink>(
+    buffer: &mut Vec<u8>,
+    deck: &Deck,
+    report: &Report,
+    out: &mut K,
+) -> Result<(), ReportWriteFault>
+    requires { HasLengthsOf deck.now (outcome_of report.now.outcome) }
+    ensures { Writes K.contents K.fault_count out.old out.new (report_lines deck.now (outcome_of report.now.outcome) report.now.log) result }
+{
+    write_line(buffer, &Line::Word(b"LPCERT 1"), out)?;
+    write_line(buffer, &Line::Deck(deck.name().bytes()), out)?;
+    write_outcome(buffer, deck, &report.outcome, out)?;
+    write_log(buffer, report, out)?;
+    write_line(buffer, &Line::Word(b"END"), out)
+}
+
+// Writes the lines of an outcome.
+fn write_outcome<K: Sink>(
+    buffer: &mut Vec<u8>,
+    deck: &Deck,
+    outcome: &Outcome,
+    out: &mut K,
+) -> Result<(), ReportWriteFault>
+    requires { HasLengthsOf deck.now (outcome_of outcome.now) }
+    ensures { Writes K.contents K.fault_count out.old out.new (outcome_lines deck.now (outcome_of outcome.now)) result }
+{
+    match outcome {
+        Outcome::Optimal { x, y, objective } => {
+            write_line(buffer, &Line::Word(b"OPTIMAL"), out)?;
+            write_line(buffer, &Line::Objective(*objective), out)?;
+            write_values(buffer, b"VALUE", x, &Names::Columns(deck), out)?;
+            write_values(buffer, b"PRICE", y, &Names::Rows(deck), out)
+        }
+        Outcome::Infeasible { y } => {
+            write_line(buffer, &Line::Word(b"INFEASIBLE"), out)?;
+            write_values(buffer, b"FARKAS", y, &Names::Rows(deck), out)
+        }
+        Outcome::Unbounded { x, ray } => {
+            write_line(buffer, &Line::Word(b"UNBOUNDED"), out)?;
+            write_values(buffer, b"VALUE", x, &Names::Columns(deck), out)?;
+            write_values(buffer, b"RAY", ray, &Names::Columns(deck), out)
+        }
+    }
+}
+
+// Writes a line for each name, with the word and the value at its index.
+fn write_values<K: Sink>(
+    buffer: &mut Vec<u8>,
+    word: &[u8],
+    values: &Fracs,
+    names: &Names,
+    out: &mut K,
+) -> Result<(), ReportWriteFault>
+    requires { length values.now ≡ length (names_of names.now) }
+    ensures { Writes K.contents K.fault_count out.old out.new (value_lines word.now values.now (names_of names.now)) result }
+{
+    for index in 0..names.len() {
+        let value = values.get(index);
+        let name = names.get(index);
+        write_line(buffer, &Line::Value(word, value, name), out)?;
+    }
+    Ok(())
+}
+
+// Writes the lines of the log, where the report has one.
+fn write_log<K: Sink>(
+    buffer: &mut Vec<u8>,
+    report: &Report,
+    out: &mut K,
+) -> Result<(), ReportWriteFault>
+    ensures { Writes K.contents K.fault_count out.old out.new (log_lines report.now.log) result }
+{
+    let Some(log) = &report.log else {
+        return Ok(());
+    };
+    write_line(buffer, &Line::Log(log.len()), out)?;
+    write_entries(buffer, log.entries(), out)
+}
+
+// Writes a line for each entry.
+fn write_entries<K: Sink>(
+    buffer: &mut Vec<u8>,
+    entries: &[Entry],
+    out: &mut K,
+) -> Result<(), ReportWriteFault>
+    ensures { Writes K.contents K.fault_count out.old out.new (map entry_line entries.now) result }
+{
+    for entry in entries {
+        write_line(buffer, &Line::Entry(*entry), out)?;
+    }
+    Ok(())
+}
+
+// Writes a line as one piece, by way of the buffer.
+fn write_line<K: Sink>(
+    buffer: &mut Vec<u8>,
+    line: &Line,
+    out: &mut K,
+) -> Result<(), ReportWriteFault>
+    ensures { Writes K.contents K.fault_count out.old out.new (line_text line.now ∷ []) result }
+{
+    line.fill(buffer)?;
+    write_all(out, buffer)?;
+    Ok(())
+}
+
+/// The names of a deck's columns, or of its rows.
+#[derive(Drop)]
+enum Names<'a> {
+    Columns(&'a Deck),
+    Rows(&'a Deck),
+}
+
+impl<'a> Names<'a> {
+    // How many names there are.
+    fn len(&self) -> usize
+        ensures { result ≡ length (names_of self.now) }
+    {
+        match self {
+            Names::Columns(deck) => deck.columns(),
+            Names::Rows(deck) => deck.rows(),
+        }
+    }
+
+    // The name at this index.
+    fn get(&self, index: usize) -> &'a [u8]
+        requires { index < length (names_of self.now) }
+        ensures { result.now ≡ get_or (names_of self.now) index [] }
+    {
+        match self {
+            Names::Columns(deck) => deck.column_name(index).bytes(),
+            Names::Rows(deck) => deck.row_name(index).bytes(),
+        }
+    }
+}
