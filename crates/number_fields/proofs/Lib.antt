@@ -1,0 +1,4 @@
+pub mod Places
+pub mod TenthLemmas
+pub mod PartLemmas
+pub mod SpellingLemmas
