@@ -1,0 +1,5 @@
+pub mod AheadLemmas
+pub mod PieceLemmas
+pub mod GatheringLemmas
+pub mod ColumnLemmas
+pub mod SplittingLemmas

@@ -1,0 +1,29 @@
+-- What a line is split into: the card that it is.
+use Rattle.std.specs.Prelude.{◌≡◌, ℕ, List, take, Option, Some, None, Result, Ok, Err, Bool, true, false, if◌then◌else◌}
+use Rattle.lp_text.specs.Cards.{Card as TextCard, CardFault as TextFault, columns, not_ascii, without_return}
+use Rattle.mps_cards.specs.declared.cards.CardKind.{CardKind}
+use Rattle.mps_cards.specs.declared.cards.CardKind.TheVariants as kinds
+use Rattle.mps_cards.specs.declared.cards.CardFault.{CardFault}
+use Rattle.mps_cards.specs.declared.cards.CardFault.TheVariants as faults
+use Rattle.mps_cards.specs.declared.cards.Card.{Card}
+use Rattle.mps_cards.specs.declared.lines.Line.{Line}
+
+abbrev pub is_section : CardKind → Bool
+is_section kinds.Section = true
+is_section kinds.Data = false
+
+-- a card apart from its line
+abbrev pub text_card : Card → TextCard
+text_card card = record { is_section = is_section card.kind; fields = card.fields }
+
+-- the columns of a line that count
+abbrev pub judged : Line → List ℕ
+judged line = take 61 (if line.longer then line.bytes else without_return line.bytes)
+
+-- an answer to a line of this number says what the line is
+abbrev pub Says : ℕ → Result (Option TextCard) TextFault → Result (Option Card) CardFault → Type 0
+Says number what (Ok None) = what ≡ Ok None
+Says number what (Ok (Some card)) = (what ≡ Ok (Some (text_card card))) × (card.line ≡ number)
+Says number what (Err faults.Memory) = Unit {0}
+Says number what (Err (faults.NotAscii line)) = (what ≡ Err not_ascii) × (line ≡ number)
+Says number what (Err (faults.Columns line column)) = (what ≡ Err (columns column)) × (line ≡ number)
