@@ -1,0 +1,5 @@
+pub mod Least
+pub mod Limits
+pub mod Moves
+pub mod Parts
+pub mod Rows
