@@ -1,0 +1,5 @@
+pub mod Items
+pub mod Products
+pub mod Runs
+pub mod Points
+pub mod Starts
