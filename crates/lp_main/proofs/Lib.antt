@@ -1,0 +1,3 @@
+pub mod ThreeWords
+pub mod Solving
+pub mod Ending

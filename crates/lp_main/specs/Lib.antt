@@ -1,0 +1,6 @@
+pub mod Codes
+pub mod Says
+pub mod Refusal
+pub mod Serves
+pub mod Solves
+pub mod Ends

@@ -1,0 +1,98 @@
+// A solve from a source to a sink.
+ghost use Rattle.std.specs.Prelude.{◌≡◌, ◌≤◌, IfOk, IfSome, IfErr, OnOk, IsErrOf};
+ghost use Rattle.io_ends.specs.Bytes.{Appends, AppendsPrefix};
+ghost use Rattle.io_ends.specs.Count.{Rose};
+ghost use Rattle.cert_text.specs.Report.{text_of_report};
+ghost use Rattle.lp_text.specs.PlainDeck.{IsDeckOf};
+ghost use Rattle.lp_main.specs.Serves.{Reports};
+ghost use Rattle.lp_main.specs.Solves.{IsCause, IsReadingCause, IsReportCause, IsReportOf, IsWriteCause};
+
+use crate::refusal::Refusal;
+use cert_text::{Report, ReportWriteFault, write_report};
+use exact_frac::Arith;
+use io_ends::{Sink, Source};
+use plain_deck::{PlainDeck, ReadFault, read_plain};
+use simple_solve::SolveFault;
+use std::alloc::Global;
+
+/// How many moves a run may take.
+const BUDGET: u64 = 1_000_000;
+
+/// Reads a deck, and answers it with its last line.
+fn load<S: Source>(alloc: Global, source: &mut S) -> Result<PlainDeck, Refusal>
+    ensures read { IfOk result (λ read. IfSome (S.remaining source.old) (λ text. IsDeckOf text read.deck read.line)) }
+    ensures cause { IfErr result (λ refusal. IsReadingCause (S.remaining source.old) (S.remaining source.new) refusal) }
+    ensures rose { IsErrOf result Refusal.Read → Rose (S.fault_count source.old) (S.fault_count source.new) }
+    ensures stays { ¬ IsErrOf result Refusal.Read → S.fault_count source.new ≡ S.fault_count source.old }
+    ensures never_falls { S.fault_count source.old ≤ S.fault_count source.new }
+{
+    match read_plain(alloc, source) {
+        Ok(read) => Ok(read),
+        Err(ReadFault::Memory) => Err(Refusal::Memory),
+        Err(ReadFault::Read) => Err(Refusal::Read),
+        Err(ReadFault::Departs(line)) => Err(Refusal::Later(line)),
+        Err(ReadFault::Cut(line)) => Err(Refusal::Later(line)),
+    }
+}
+
+/// The report of a deck that was read.
+fn report_of<A: Arith>(alloc: Global, read: &PlainDeck, arith: &mut A) -> Result<Report, Refusal>
+    ensures report { IfOk result (λ report. IsReportOf read.now.deck report) }
+    ensures cause { IfErr result (IsReportCause (A.width arith.old) read.now.deck read.now.line) }
+    ensures same_width { A.width arith.new ≡ A.width arith.old }
+{
+    match simple_solve::solve(alloc, &read.deck, BUDGET, arith) {
+        Ok(outcome) => Ok(Report { outcome, log: None }),
+        Err(SolveFault::Endless) => Err(Refusal::Later(read.line)),
+        Err(SolveFault::Unfit) => Err(Refusal::Overflow),
+        Err(SolveFault::Spent) => Err(Refusal::Budget(BUDGET)),
+        Err(SolveFault::Memory) => Err(Refusal::Memory),
+    }
+}
+
+/// Writes a report.
+fn write<K: Sink>(
+    alloc: Global,
+    read: &PlainDeck,
+    report: &Report,
+    out: &mut K,
+) -> Result<(), Refusal>
+    requires { IsReportOf read.now.deck report.now }
+    ensures written { OnOk result (Appends (K.contents out.old) (K.contents out.new) (text_of_report read.now.deck report.now)) }
+    ensures cause { IfErr result IsWriteCause }
+    ensures begun { AppendsPrefix (K.contents out.old) (K.contents out.new) (text_of_report read.now.deck report.now) }
+    ensures rose { IsErrOf result Refusal.Write → Rose (K.fault_count out.old) (K.fault_count out.new) }
+    ensures stays { ¬ IsErrOf result Refusal.Write → K.fault_count out.new ≡ K.fault_count out.old }
+    ensures never_falls { K.fault_count out.old ≤ K.fault_count out.new }
+{
+    match write_report(alloc, &read.deck, report, out) {
+        Ok(()) => Ok(()),
+        Err(ReportWriteFault::Write) => Err(Refusal::Write),
+        Err(ReportWriteFault::Memory) => Err(Refusal::Memory),
+    }
+}
+
+/// Solves the deck of a source, and writes its report to a sink.
+pub fn solve<S: Source, K: Sink, A: Arith>(
+    alloc: Global,
+    source: &mut S,
+    out: &mut K,
+    arith: &mut A,
+) -> Result<(), Refusal>
+    ensures done { OnOk result (IfSome (S.remaining source.old) (Reports (K.contents out.old) (K.contents out.new))) }
+    ensures cause { IfErr result (IsCause (A.width arith.old) (S.remaining source.old) (S.remaining source.new) (K.contents out.old) (K.contents out.new)) }
+    ensures source_rose { IsErrOf result Refusal.Read → Rose (S.fault_count source.old) (S.fault_count source.new) }
+    ensures source_never_falls { S.fault_count source.old ≤ S.fault_count source.new }
+    ensures sink_rose { IsErrOf result Refusal.Write → Rose (K.fault_count out.old) (K.fault_count out.new) }
+    ensures sink_never_falls { K.fault_count out.old ≤ K.fault_count out.new }
+    ensures same_width { A.width arith.new ≡ A.width arith.old }
+{
+    let read = match load(alloc, source) {
+        Ok(read) => read,
+        Err(unread) => return Err(unread),
+    };
+    match report_of(alloc, &read, arith) {
+        Ok(report) => write(alloc, &read, &report, out),
+        Err(refusal) => Err(refusal),
+    }
+}

@@ -1,0 +1,35 @@
+// How a call of the program ends.
+ghost use Rattle.std.specs.Prelude.{◌≡◌};
+ghost use Rattle.lp_main.specs.Codes.{code_of};
+
+/// How a call of the program ends.
+#[derive(Clone, Copy, Debug, PartialEq, Eq)]
+pub enum Status {
+    /// What was asked for is written whole.
+    Done,
+    /// A check found a rule broken.
+    Refused,
+    /// The words are no wish.
+    Usage,
+    /// The input has a fault.
+    BadInput,
+    /// A read failed.
+    ReadFault,
+    /// A write failed.
+    WriteFault,
+    /// A value does not fit the width of the arithmetic.
+    Overflow,
+    /// The run needs more moves than the budget.
+    Budget,
+    /// Memory ran out.
+    Memory,
+}
+
+impl Status {
+    /// The exit status of the process.
+    pub fn code(self) -> u8
+        ensures { result ≡ code_of self }
+    {
+        self as u8
+    }
+}
