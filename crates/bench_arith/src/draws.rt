@@ -1,0 +1,154 @@
+// Streams of operands, drawn from a fixed seed.
+ghost use Rattle.std.specs.Prelude.{◌<◌, ◌^◌};
+
+use exact_frac::Frac;
+
+/// Which operands a stream holds.
+#[derive(Clone, Copy)]
+pub enum Stream {
+    /// Integers of sizes from 1 to 1,000.
+    Small,
+    /// Fractions whose parts are below 2^63.
+    Wide,
+    /// Fractions whose parts are from 2^126 to 2^127 before they are reduced. Of each four pairs one shares
+    /// its denominator, and one has the left numerator as its right denominator.
+    Full,
+}
+
+impl Stream {
+    /// The stream of that name.
+    pub fn named(word: &str) -> Option<Stream> {
+        match word {
+            "small" => Some(Stream::Small),
+            "wide" => Some(Stream::Wide),
+            "full" => Some(Stream::Full),
+            _ => None,
+        }
+    }
+
+    /// How many pairs a run draws.
+    pub fn count(self) -> u32 {
+        match self {
+            Stream::Small => 200_000,
+            Stream::Wide => 200_000,
+            Stream::Full => 20_000,
+        }
+    }
+}
+
+const SEED: u64 = 20_260_701;
+
+const MULTIPLIER: u64 = 6_364_136_223_846_793_005;
+
+const INCREMENT: u64 = 1_442_695_040_888_963_407;
+
+/// One more than the largest number of 64 bits.
+const WORD: u128 = 0x1_0000_0000_0000_0000;
+
+/// 2^126.
+const HALF: u128 = 0x4000_0000_0000_0000_0000_0000_0000_0000;
+
+/// The largest signed number of 64 bits.
+const WIDE: u64 = 0x7fff_ffff_ffff_ffff;
+
+/// A linear congruential generator.
+#[derive(Drop)]
+pub struct Draws {
+    state: u64,
+}
+
+impl Draws {
+    /// The generator at its seed.
+    pub fn new() -> Draws {
+        Draws { state: SEED }
+    }
+
+    /// The next word. Its low half takes in the high half, since the low bits of the state repeat soon.
+    fn word(&mut self) -> u64 {
+        self.state = self.state.wrapping_mul(MULTIPLIER).wrapping_add(INCREMENT);
+        self.state ^ (self.state >> 32)
+    }
+
+    /// The size of a part.
+    fn size(&mut self, stream: Stream) -> u128
+        ensures some { 0 < result }
+        ensures below { result < 2 ^ 127 }
+    {
+        match stream {
+            Stream::Small => (self.word() % 1_000) as u128 + 1,
+            Stream::Wide => (self.word() % WIDE) as u128 + 1,
+            Stream::Full => {
+                let high = self.word() as u128;
+                let low = self.word() as u128;
+                (high * WORD + low) % HALF + HALF
+            }
+        }
+    }
+
+    /// The right denominator of a pair whose left operand has those parts.
+    fn shared(&mut self, left_size: u128, left_denom: u128) -> u128
+        requires size_some { 0 < left_size }
+        requires size_below { left_size < 2 ^ 127 }
+        requires denom_some { 0 < left_denom }
+        requires denom_below { left_denom < 2 ^ 127 }
+        ensures some { 0 < result }
+        ensures below { result < 2 ^ 127 }
+    {
+        let choice = self.word() % 4;
+        if choice == 0 {
+            return left_denom;
+        }
+        if choice == 1 {
+            return left_size;
+        }
+        self.size(Stream::Full)
+    }
+
+    /// The denominators of a pair whose left numerator has that size.
+    fn denoms(&mut self, stream: Stream, left_size: u128) -> (u128, u128)
+        requires some { 0 < left_size }
+        requires below { left_size < 2 ^ 127 }
+        ensures left_some { 0 < result.0 }
+        ensures left_below { result.0 < 2 ^ 127 }
+        ensures right_some { 0 < result.1 }
+        ensures right_below { result.1 < 2 ^ 127 }
+    {
+        match stream {
+            Stream::Small => (1, 1),
+            Stream::Wide => {
+                let left = self.size(stream);
+                let right = self.size(stream);
+                (left, right)
+            }
+            Stream::Full => {
+                let left = self.size(stream);
+                let right = self.shared(left_size, left);
+                (left, right)
+            }
+        }
+    }
+
+    /// The fraction with those parts, of either sign.
+    fn fraction(&mut self, size: u128, denom: u128) -> Frac
+        requires size_below { size < 2 ^ 127 }
+        requires denom_some { 0 < denom }
+        requires denom_below { denom < 2 ^ 127 }
+    {
+        let fraction = Frac::of(size as i128, denom as i128);
+        if self.word() % 2 == 0 {
+            fraction
+        } else {
+            fraction.negated()
+        }
+    }
+
+    /// The next pair of the stream.
+    pub fn pair(&mut self, stream: Stream) -> (Frac, Frac) {
+        let left_size = self.size(stream);
+        let right_size = self.size(stream);
+        let (left_denom, right_denom) = self.denoms(stream, left_size);
+        let left = self.fraction(left_size, left_denom);
+        let right = self.fraction(right_size, right_denom);
+        (left, right)
+    }
+}
