@@ -1,0 +1,55 @@
+// How pivots are sought, and how they are taken.
+ghost use Rattle.std.specs.Prelude.{◌≡◌, IfSome};
+ghost use Rattle.cross_links.specs.Matrix.{IsLink, IsMatrix};
+
+use crate::scan::scan;
+use cross_links::Cross;
+
+/// A way to seek the entry of least cost.
+#[derive(Clone, Copy)]
+pub enum Search {
+    /// By the buckets of `cross_links`.
+    Least,
+    /// By a scan of all entries.
+    Scan,
+    /// None is sought.
+    Load,
+}
+
+impl Search {
+    /// The search of that name.
+    pub fn named(word: &str) -> Option<Search> {
+        match word {
+            "least" => Some(Search::Least),
+            "scan" => Some(Search::Scan),
+            "load" => Some(Search::Load),
+            _ => None,
+        }
+    }
+
+    /// The next pivot.
+    pub fn pivot(self, cross: &Cross, size: usize) -> Option<u32>
+        requires size { cross.now.size ≡ size }
+        requires matrix { IsMatrix cross.now }
+        ensures { IfSome result (IsLink cross.now) }
+    {
+        match self {
+            Search::Least => cross.least(),
+            Search::Scan => scan(cross, size),
+            Search::Load => None,
+        }
+    }
+}
+
+/// Removes the row and the column of an entry, and answers them.
+pub fn take(cross: &mut Cross, link: u32) -> (usize, usize)
+    requires link { IsLink cross.old link }
+    requires matrix { IsMatrix cross.old }
+    ensures size { cross.new.size ≡ cross.old.size }
+    ensures matrix { IsMatrix cross.new }
+{
+    let (r, c, _) = cross.entry(link);
+    cross.remove_row(r);
+    cross.remove_col(c);
+    (r, c)
+}
