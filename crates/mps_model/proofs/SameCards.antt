@@ -36,9 +36,6 @@ printed text b =
 printed-is : (line : List ℕ) → length line ≤ 61 → list_all is_printable line ≡ true → card_of line ≡ printed line true
 printed-is line short e = ap card_in (counted-all line short e) ∙ ap (printed line) e
 
-past_gap : (text : List ℕ) (i : ℕ) → length text ≤ i → slice_index_or text i 32 ≡ 32
-past_gap text i past = get_or_past text i 32 past
-
 -- ── the cards of sections ──
 
 pub rows-card : card_of (codes "ROWS") ≡ section_card (codes "ROWS") []
@@ -89,11 +86,11 @@ module _ (line one two three four : List ℕ) (h : IsData line one two three fou
         h.blank14,
         h.blank23,
         h.blank24,
-        past_gap line 36 (omega (arith, h.short)),
-        past_gap line 37 (omega (arith, h.short)),
-        past_gap line 38 (omega (arith, h.short)),
-        past_gap line 47 (omega (arith, h.short)),
-        past_gap line 48 (omega (arith, h.short)),
+        get_or_past line 36 32 (omega (arith, h.short)),
+        get_or_past line 37 32 (omega (arith, h.short)),
+        get_or_past line 38 32 (omega (arith, h.short)),
+        get_or_past line 47 32 (omega (arith, h.short)),
+        get_or_past line 48 32 (omega (arith, h.short)),
       ) refl
 
   field5 : trimmed (bytes_in line 40 47) ≡ []
@@ -128,10 +125,10 @@ module _ (name : List ℕ) (n : IsName name) where
         some = some;
         blank1 = blank1;
         blank4 = blank4;
-        blank13 = past_gap line 12 (omega (arith, long, n.short));
-        blank14 = past_gap line 13 (omega (arith, long, n.short));
-        blank23 = past_gap line 22 (omega (arith, long, n.short));
-        blank24 = past_gap line 23 (omega (arith, long, n.short));
+        blank13 = get_or_past line 12 32 (omega (arith, long, n.short));
+        blank14 = get_or_past line 13 32 (omega (arith, long, n.short));
+        blank23 = get_or_past line 22 32 (omega (arith, long, n.short));
+        blank24 = get_or_past line 23 32 (omega (arith, long, n.short));
         field1 = word_is;
         field2 = ap (λ t. trimmed (take 8 t)) rest ∙ name-trimmed name n;
         field3 = ap (λ t. trimmed (take 8 t)) (drop_all 14 line (omega (arith, long, n.short)));
@@ -230,7 +227,7 @@ IsSameCard (pair first second negated n) r = IsName first × IsName second × ((
 IsSameCard right_sides r = r ≡ section_card (codes "RHS") []
 IsSameCard finish r = r ≡ section_card (codes "ENDATA") []
 
-same_some : (a b : plain.Card) → Some a ≡ Some b → a ≡ b
+pub same_some : (a b : plain.Card) → Some a ≡ Some b → a ≡ b
 same_some a b e = cc
 
 module _ (line : List ℕ) (card : plain.Card) where

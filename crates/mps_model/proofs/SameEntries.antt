@@ -2,7 +2,7 @@
 use Rattle.std.proofs.Common.{◌≡◌, ℕ, ◌<◌, List, [], ◌∷◌, length, position, Some, None, Ok, Err, Bool, true, false, not, ◌&&◌, ◌||◌, is_some, nat_lt, if◌then◌else◌, lit<, refl, sym, ap, subst, ◌∙◌}
 use Rattle.std.specs.List.{list_any}
 use Rattle.std.specs.Option.{unwrap_or}
-use Rattle.std.proofs.lemmas.Bool.{and_parts, ltb-true, not-true}
+use Rattle.std.proofs.lemmas.Bool.{and_parts, ltb-true, not-true, or_parts}
 use Rattle.std.proofs.lemmas.List.Folds.{list_any-append}
 use Rattle.rational.specs.Rational.{ℚ, eq_ℚ, zero_ℚ}
 use Rattle.lp_model.specs.Deck.{Column, Deck, no_column}
@@ -17,14 +17,14 @@ use Rattle.mps_model.proofs.SameCards.{same_bytes-equal}
 use Rattle.mps_model.proofs.SameColumns.{IsNumbered, one_for, with_cost-numbered, with_entry-numbered}
 use Rattle.mps_model.proofs.SamePairs.{IsOpened, column_state, opened-last, opened-new}
 use Rattle.mps_model.proofs.SameRights.{pair-judged, some_from}
-use Rattle.mps_model.proofs.SameSections.{HasObjective, HasPairs, is_some-position, last_of, or_false, placed}
+use Rattle.mps_model.proofs.SameSections.{HasObjective, HasPairs, is_some-position, last_of, placed}
 
 -- ── the column of a pair ──
 
 new_before : (d : Deck) (first name second : List ℕ) → is_column_name (with_column d first) name ≡ false → is_column_name d name ≡ false
 new_before d first name second e =
     is_some-position (λ c. same_bytes c.name name) d.columns
-    ∙ (or_false (list_any (λ c. same_bytes c.name name) d.columns) (list_any (λ c. same_bytes c.name name) (record no_column { name = first } ∷ []))
+    ∙ (or_parts (list_any (λ c. same_bytes c.name name) d.columns) (list_any (λ c. same_bytes c.name name) (record no_column { name = first } ∷ []))
     (sym (list_any-append (λ c. same_bytes c.name name) d.columns (record no_column { name = first } ∷ [])) ∙ sym (is_some-position (λ c. same_bytes c.name name) (with_column d first).columns) ∙ e)).0
 
 -- the deck and the rows named once the column of a pair is opened

@@ -10,7 +10,7 @@ use Rattle.lp_text.specs.PlainDeck.{before_objective, before_rows, before_title,
 use Rattle.lp_text.specs.PlainDeck as deck
 use Rattle.mps_model.specs.DeckSoFar.{DeckSoFar, limit, of_bytes}
 use Rattle.mps_model.specs.Judgement.{judge_line}
-use Rattle.mps_model.proofs.SameCards.{IsSameCard, Read, same_card}
+use Rattle.mps_model.proofs.SameCards.{IsSameCard, Read, same_card, same_some}
 use Rattle.mps_model.proofs.SameColumnCards.{entry-judged}
 use Rattle.mps_model.proofs.SameRights.{right-judged}
 use Rattle.mps_model.proofs.SameSections.{Agrees, AgreesAfter, AgreesIn, columns-judged, judged, less_row-judged, objective-judged, right_sides-judged, rows-judged, title-judged}
@@ -95,16 +95,13 @@ pub judge-parts : (used : ℕ) (cards : List plain.Card) (line : Line) (card : p
     → (plain.card_of line.bytes ≡ Some card) × (nat_le (used + size_of line) byte_limit ≡ true) × (follows (deck.section_of cards) (deck.deck_of cards) (deck.pairs_here cards) card ≡ true)
 judge-parts used cards line card e = by_card (plain.card_of line.bytes) refl e
   where
-    same : (a b : plain.Card) → Some a ≡ Some b → a ≡ b
-    same a b e = cc
-
     by_test : (c : plain.Card) (b : Bool) → (nat_le (used + size_of line) byte_limit && follows (deck.section_of cards) (deck.deck_of cards) (deck.pairs_here cards) c) ≡ b → plain.card_of line.bytes ≡ Some c
         → (if b then Some c else None) ≡ Some card
         → (plain.card_of line.bytes ≡ Some card) × (nat_le (used + size_of line) byte_limit ≡ true) × (follows (deck.section_of cards) (deck.deck_of cards) (deck.pairs_here cards) card ≡ true)
     by_test c false t f e = absurd (cc e)
     by_test c true t f e =
         let parts = and_parts (nat_le (used + size_of line) byte_limit) (follows (deck.section_of cards) (deck.deck_of cards) (deck.pairs_here cards) c) t in
-        (f ∙ e, parts.0, subst (λ x. follows (deck.section_of cards) (deck.deck_of cards) (deck.pairs_here cards) x ≡ true) (same c card e) parts.1)
+        (f ∙ e, parts.0, subst (λ x. follows (deck.section_of cards) (deck.deck_of cards) (deck.pairs_here cards) x ≡ true) (same_some c card e) parts.1)
 
     by_card : (o : Option plain.Card) → plain.card_of line.bytes ≡ o
         → elim o [ None ↦ None | Some c ↦ if nat_le (used + size_of line) byte_limit && follows (deck.section_of cards) (deck.deck_of cards) (deck.pairs_here cards) c then Some c else None ] ≡ Some card

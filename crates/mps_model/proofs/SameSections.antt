@@ -2,7 +2,7 @@
 use Rattle.std.proofs.Common.{◌≡◌, ℕ, suc, ◌+◌, ◌-◌, ◌<◌, ◌≤◌, List, [], ◌∷◌, length, filter, position, cond, Option, Some, None, Result, Ok, Err, Bool, true, false, not, ◌&&◌, ◌||◌, is_some, nat_lt, if◌then◌else◌, refl, sym, ap, ap₂, subst, ◌∙◌, arith, inl, inr}
 use Rattle.std.specs.List.{list_any, list_all, position_or_len}
 use Rattle.std.specs.Option.{unwrap_or}
-use Rattle.std.proofs.lemmas.Bool.{and_parts, cases_Bool, not-true}
+use Rattle.std.proofs.lemmas.Bool.{and_parts, cases_Bool, not-true, or_parts}
 use Rattle.std.proofs.lemmas.Bool.Decides.{nat_tests}
 use Rattle.std.proofs.lemmas.List.Folds.{list_any-append}
 use Rattle.lp_model.specs.Deck.{Deck, column, no_row}
@@ -84,10 +84,6 @@ pub none_of : (o : Option ℕ) → is_some o ≡ false → o ≡ None
 none_of None e = refl
 none_of (Some i) e = absurd (cc e)
 
-pub or_false : (a b : Bool) → (a || b) ≡ false → (a ≡ false) × (b ≡ false)
-or_false true b e = absurd (cc e)
-or_false false b e = (refl, e)
-
 pub same_bytes-other : (a b : List ℕ) → same_bytes a b ≡ false → same_bytes b a ≡ false
 same_bytes-other a b e = elim (cases_Bool (same_bytes b a)) [
   | inr other ↦ other
@@ -159,7 +155,7 @@ module _ (s : DeckSoFar) (read : Read) (d : Deck) (pairs : List plain.Card) wher
   pub less_row-judged : (name : List ℕ) → AgreesIn in_rows s d pairs → IsSameCard (plain.less_row name) read → (not (is_row_name d name) && nat_lt (length d.rows) row_limit) ≡ true → AgreesAfter s read in_rows (with_row d name L) []
   less_row-judged name h same t =
       let parts = and_parts (not (is_row_name d name)) (nat_lt (length d.rows) row_limit) t in
-      let new = or_false (same_bytes d.objective name) (is_some (find_row d name)) (not-true (is_row_name d name) parts.0) in (
+      let new = or_parts (same_bytes d.objective name) (is_some (find_row d name)) (not-true (is_row_name d name) parts.0) in (
         state (rows ∷ title ∷ []) (with_row d name L) (d.objective ∷ []) None [],
         ap₂ judged h.0 same.1
             ∙ ap (λ o. given (placed o (if same_bytes d.objective name then Some objective else None)) (roomy (nat_lt (length d.rows) row_limit))) (none_of (find_row d name) new.1)

@@ -1,23 +1,21 @@
 -- The digits of a number by their places.
-use Rattle.std.proofs.Common.{◌≡◌, ℕ, zero, suc, ◌+◌, ◌-◌, ◌*◌, ◌/◌, ◌%◌, ◌^◌, ◌<◌, ◌≤◌, List, [], ◌∷◌, ◌++◌, length, take, drop, get_or, true, pos, lit<, refl, sym, ◌∙◌, ap, subst, arith, length-append, length-drop, take-append-drop, pow-add}
+use Rattle.std.proofs.Common.{◌≡◌, ℕ, suc, ◌+◌, ◌-◌, ◌*◌, ◌/◌, ◌%◌, ◌^◌, ◌<◌, ◌≤◌, List, [], ◌∷◌, ◌++◌, length, take, drop, get_or, true, pos, lit<, sym, ◌∙◌, ap, subst, arith, length-append, length-drop, take-append-drop, pow-add}
 use Rattle.std.specs.Prelude.{fold}
 use Rattle.std.specs.List.{list_all}
-use Rattle.std.proofs.Math.Nat.{one-le-pow, pow-le-pow_right, div-div-eq-div-mul, div-add-mod, div-le_self, div-eq_of_lt, mod-lt, mod-eq_of_lt, mul-add-div_right, mul-add-mod_self_right, div-lt_iff_lt-mul, le-div_iff_mul-le}
-use Rattle.std.proofs.lemmas.Bool.{leb-true, and_parts, and_from}
+use Rattle.std.proofs.Math.Nat.{pow-suc, one-le-pow, pow-le-pow_right, div-div-eq-div-mul, div-add-mod, div-le_self, div-eq_of_lt, mod-lt, mod-eq_of_lt, mul-add-div_right, mul-add-mod_self_right, div-lt_iff_lt-mul, le-div_iff_mul-le}
+use Rattle.std.proofs.Math.ListN.{get_or-append}
+use Rattle.std.proofs.lemmas.Bool.{leb-true, and_parts}
 use Rattle.std.proofs.lemmas.List.{take_more, get_or-append-add}
 use Rattle.std.proofs.lemmas.List.Sums.{fold-append}
-use Rattle.std.proofs.lemmas.List.Folds.{list_all-append}
 use Rattle.lp_text.specs.PlainCards.{digits_value, is_digit}
+use Rattle.mps_model.proofs.SameFields.{list_all-both, list_all-parts}
 use Rattle.rational.specs.Ring.{ring_ℤ, of_pos, ◌≐◌, ◌⊕◌, ◌⊗◌, 𝟘, literal}
 
 pub ten_pos : (k : ℕ) → 0 < 10 ^ k
 ten_pos k = omega (arith, one-le-pow k 10 (lit< tt))
 
 pub tens : (k : ℕ) → 10 ^ suc k ≡ 10 ^ k * 10
-tens k = ap (λ j. 10 ^ j) (by_one k) ∙ pow-add 10 k 1
-  where
-    by_one : (k : ℕ) → suc k ≡ k + 1
-    by_one k = omega arith
+tens k = pow-suc 10 k
 
 pub tens_more : (k : ℕ) → 10 ^ (k + 1) ≡ 10 ^ k * 10
 tens_more k = pow-add 10 k 1
@@ -67,9 +65,6 @@ last_digit : (a : List ℕ) (c : ℕ) → c - 48 ≤ 9 → digits_value (a ++ c 
 last_digit a c h =
     ap (λ n. n % 10) (value-append a (c ∷ [])) ∙ mul-add-mod_self_right (digits_value a) 10 (digits_value (c ∷ [])) ∙ ap (λ n. n % 10) (digit_alone c) ∙ mod-eq_of_lt (omega arith)
 
-pub all_parts : (a b : List ℕ) → list_all is_digit (a ++ b) ≡ true → (list_all is_digit a ≡ true) × (list_all is_digit b ≡ true)
-all_parts a b t = and_parts _ _ (sym (list_all-append is_digit a b) ∙ t)
-
 front_value : (a b : List ℕ) → list_all is_digit b ≡ true → digits_value (a ++ b) / 10 ^ length b ≡ digits_value a
 front_value a b t =
     ap (λ n. n / 10 ^ length b) (value-append a b) ∙ mul-add-div_right (ten_pos (length b)) (digits_value a) (digits_value b)
@@ -79,7 +74,7 @@ front_value a b t =
     no_more n = omega arith
 
 at_all : (a : List ℕ) (c : ℕ) (b : List ℕ) → list_all is_digit ((a ++ c ∷ []) ++ b) ≡ true → c - 48 ≤ 9
-at_all a c b t = digit_below c (and_parts _ _ (all_parts a (c ∷ []) (all_parts (a ++ c ∷ []) b t).0).1).0
+at_all a c b t = digit_below c (and_parts _ _ (list_all-parts is_digit a (c ∷ []) (list_all-parts is_digit (a ++ c ∷ []) b t).0).1).0
 
 pub digit_at : (ds : List ℕ) (i place d : ℕ) → list_all is_digit ds ≡ true → place + (i + 1) ≡ length ds → get_or ds i d - 48 ≡ digits_value ds / 10 ^ place % 10
 digit_at ds i place d t e =
@@ -92,34 +87,26 @@ digit_at ds i place d t e =
     let long : length b ≡ place = length-drop (i + 1) ds ∙ omega arith in
     sym (ap (λ (l : List ℕ). digits_value l / 10 ^ place % 10) (sym split)
     ∙ ap (λ k. digits_value ((a ++ c ∷ []) ++ b) / 10 ^ k % 10) (sym long)
-    ∙ ap (λ n. n % 10) (front_value (a ++ c ∷ []) b (all_parts (a ++ c ∷ []) b all).1)
+    ∙ ap (λ n. n % 10) (front_value (a ++ c ∷ []) b (list_all-parts is_digit (a ++ c ∷ []) b all).1)
     ∙ last_digit a c (at_all a c b all))
-
-pub both_digits : (a b : List ℕ) → list_all is_digit a ≡ true → list_all is_digit b ≡ true → list_all is_digit (a ++ b) ≡ true
-both_digits a b s t = list_all-append is_digit a b ∙ and_from _ _ s t
-
-pub get_or-front : (a b : List ℕ) (i d : ℕ) → i < length a → get_or (a ++ b) i d ≡ get_or a i d
-get_or-front [] b i d h = absurd (omega arith)
-get_or-front (x ∷ a) b zero d h = refl
-get_or-front (x ∷ a) b (suc i) d h = get_or-front a b i d (omega arith)
 
 -- a digit after the point, and one before it
 pub decimal_at : (a b : List ℕ) (place d : ℕ) → list_all is_digit a ≡ true → list_all is_digit b ≡ true → place < length b → get_or b (length b - 1 - place) d - 48 ≡ digits_value (a ++ b) / 10 ^ place % 10
 decimal_at a b place d s t h =
     let long : length (a ++ b) ≡ length a + length b = length-append a b in
     ap (λ n. n - 48) (sym (get_or-append-add a b (length b - 1 - place) d))
-    ∙ digit_at (a ++ b) (length a + (length b - 1 - place)) place d (both_digits a b s t) (omega arith)
+    ∙ digit_at (a ++ b) (length a + (length b - 1 - place)) place d (list_all-both is_digit a b s t) (omega arith)
 
 pub whole_at : (a b : List ℕ) (place d : ℕ) → list_all is_digit a ≡ true → list_all is_digit b ≡ true → length b ≤ place → place - length b < length a → get_or a (length a - 1 - (place - length b)) d - 48 ≡ digits_value (a ++ b) / 10 ^ place % 10
 whole_at a b place d s t h k =
     let long : length (a ++ b) ≡ length a + length b = length-append a b in
-    ap (λ n. n - 48) (sym (get_or-front a b (length a - 1 - (place - length b)) d (omega arith)))
-    ∙ digit_at (a ++ b) (length a - 1 - (place - length b)) place d (both_digits a b s t) (omega arith)
+    ap (λ n. n - 48) (sym (get_or-append a b d (length a - 1 - (place - length b)) (omega arith)))
+    ∙ digit_at (a ++ b) (length a - 1 - (place - length b)) place d (list_all-both is_digit a b s t) (omega arith)
 
 pub past_first : (a b : List ℕ) (place : ℕ) → list_all is_digit a ≡ true → list_all is_digit b ≡ true → length a + length b ≤ place → digits_value (a ++ b) / 10 ^ place ≡ 0
 past_first a b place s t h =
     let long : length (a ++ b) ≡ length a + length b = length-append a b in
-    let under : digits_value (a ++ b) < 10 ^ length (a ++ b) = value_below (a ++ b) (both_digits a b s t) in
+    let under : digits_value (a ++ b) < 10 ^ length (a ++ b) = value_below (a ++ b) (list_all-both is_digit a b s t) in
     let more : 10 ^ length (a ++ b) ≤ 10 ^ place = pow-le-pow_right (lit< tt) (omega arith) in
     div-eq_of_lt (omega arith)
 

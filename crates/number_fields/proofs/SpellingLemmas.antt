@@ -13,9 +13,9 @@ use Rattle.number_fields.specs.Spelled.{exponent_within}
 
 -- ---- digits
 
-leading_all : (text : List ℕ) → list_all is_digit (take_while is_digit text) ≡ true
-leading_all [] = refl
-leading_all (c ∷ text) = rw (take_while-cons is_digit c text) (each (leading_all text) (is_digit c) refl)
+pub whole_digits : (text : List ℕ) → list_all is_digit (take_while is_digit text) ≡ true
+whole_digits [] = refl
+whole_digits (c ∷ text) = rw (take_while-cons is_digit c text) (each (whole_digits text) (is_digit c) refl)
   where
     each : list_all is_digit (take_while is_digit text) ≡ true → (b : Bool) → is_digit c ≡ b → list_all is_digit (cond b (c ∷ take_while is_digit text) []) ≡ true
     each rest true e = and_from _ _ e rest
@@ -37,15 +37,12 @@ leading_within (c ∷ text) = rw (take_while-cons is_digit c text) (each (leadin
     each rest true = omega arith
     each rest false = omega arith
 
-pub whole_digits : (body : List ℕ) → list_all is_digit (leading_digits body) ≡ true
-whole_digits body = leading_all body
-
 pub decimal_digits : (body : List ℕ) → list_all is_digit (decimals body) ≡ true
 decimal_digits body = each (after_point (after_digits body))
   where
     each : (o : Option (List ℕ)) → list_all is_digit (elim o [ None ↦ [] | Some tail ↦ leading_digits tail ]) ≡ true
     each None = refl
-    each (Some tail) = leading_all tail
+    each (Some tail) = whole_digits tail
 
 -- ---- a number that stops at 31
 
@@ -63,13 +60,10 @@ stops_after text i d h = stops (digits_value (take i text)) (get_or text i d - 4
 abbrev within : ℤ → Result ℤ FieldFault
 within z = if nat_lt 30 (nat_abs z) then Err exponent else Ok z
 
-abs_signed : (negative : Bool) (n : ℕ) → nat_abs (signed negative n) ≡ n
-abs_signed negative n = nat_abs-signed negative n
-
 pub exponent_small : (negative : Bool) (n size : ℕ) → size ≡ min n 31 → size ≤ 30 → within (signed negative n) ≡ Ok (signed negative size)
 exponent_small negative n size e h =
     let same : size ≡ n = omega arith in
-    rw (abs_signed negative n) (each (nat_lt 30 n) refl ∙ ap (λ k. Ok (signed negative k)) (sym same))
+    rw (nat_abs-signed negative n) (each (nat_lt 30 n) refl ∙ ap (λ k. Ok (signed negative k)) (sym same))
   where
     each : (b : Bool) → nat_lt 30 n ≡ b → (if b then Err exponent else Ok (signed negative n)) ≡ Ok (signed negative n)
     each true t = let big : 30 < n = ltb-true 30 n t in absurd (omega arith)
@@ -78,7 +72,7 @@ exponent_small negative n size e h =
 pub exponent_large : (negative : Bool) (n size : ℕ) → size ≡ min n 31 → 30 < size → within (signed negative n) ≡ Err exponent
 exponent_large negative n size e h =
     let big : 30 < n = omega arith in
-    rw (abs_signed negative n, lt-ltb 30 n big) refl
+    rw (nat_abs-signed negative n, lt-ltb 30 n big) refl
 
 -- ---- the value, or the first fault
 

@@ -4,9 +4,8 @@ ghost use Rattle.std.specs.List.{list_all};
 ghost use Rattle.lp_text.specs.PlainCards.{digits_value, is_digit};
 ghost use Rattle.number_fields.specs.Parts.{Below, Reduces};
 
+use crate::LIMIT;
 use crate::tenths::tenth;
-
-const LIMIT: u128 = 1 << 127;
 
 // The digit at this place, counted from the last; 0 before the first.
 #[tactic(auto, using(crate::proofs::Places::decimal_at, crate::proofs::Places::whole_at, crate::proofs::Places::no_digit))]

@@ -29,6 +29,9 @@ mod tests;
 use exact_frac::Frac;
 pub use faults::FieldFault;
 
+// What the parts of a fraction stay below.
+const LIMIT: u128 = 1 << 127;
+
 /// The number that a field spells.
 ///
 /// # Errors

@@ -6,10 +6,9 @@ ghost use Rattle.lp_text.specs.PlainCards.{digits_value, is_digit};
 ghost use Rattle.mps_model.specs.NumberField.{signed, power_of_ten};
 ghost use Rattle.number_fields.specs.Parts.{Fitting, IsProper};
 
+use crate::LIMIT;
 use crate::digits::{last_part, whole_part};
 use exact_frac::Frac;
-
-const LIMIT: u128 = 1 << 127;
 
 // The whole number and the fraction as one fraction, with its sign, where it fits.
 fn joined(negative: bool, whole: u128, numer: u128, denom: u128) -> Option<Frac>

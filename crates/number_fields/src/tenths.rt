@@ -3,7 +3,7 @@ ghost use Rattle.std.specs.Prelude.{◌≡◌, ◌+◌, ◌*◌, ◌≤◌};
 ghost use Rattle.number_fields.specs.Parts.{IsProper, Reduces};
 ghost use Rattle.rational.specs.Gcd.{gcd};
 
-const LIMIT: u128 = 1 << 127;
+use crate::LIMIT;
 
 // The greatest common divisor of a number and ten.
 fn shared(number: u128) -> u128
