@@ -1,2 +1,3 @@
 pub mod Paths
 pub mod Rings
+pub mod Rest

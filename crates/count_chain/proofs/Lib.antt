@@ -1,1 +1,2 @@
 pub mod ChainsOf
+pub mod Copies

@@ -26,6 +26,10 @@ with_item chains i c = record chains { lists = slice_set chains.lists c (list_at
 abbrev pub without_item : Chains → ℕ → Chains
 without_item chains i = record chains { lists = map (without i) chains.lists }
 
+-- the chains with another list of count c
+abbrev pub with_list : Chains → ℕ → List ℕ → Chains
+with_list chains c xs = record chains { lists = slice_set chains.lists c xs }
+
 -- the lists hold items, and each item stands in one list at most, and there once
 pub record IsChained (chains : Chains) : Type 0 where
   pub below : (c : ℕ) → All (λ i. i < chains.items) (list_at chains c)

@@ -1,14 +1,14 @@
 //! Chains of counts: the items of each count in a list of their own, with a move from list to list in constant time.
 //!
 //! Where rows are chosen by the number of their entries, those of each number stand in one list. A row whose
-//! number changes is shifted to the end of another list, and no call looks through a list or takes memory.
+//! number changes is shifted to the end of another list, and no such call looks through a list or takes memory.
 //!
 //! **Model.** [`CountChain`] is seen as the number of its items and a list of lists, the items of each count in
 //! order. An item stands in one list at most, and there once (`IsChained` in `specs/Chains.antt`).
 //!
 //! **Contract.** `place` appends an item that is in no list, `unlink` takes one out, and `shift` does both. Each
 //! says what all lists are afterwards, and sets at most eight links, counted by `steps`: no other way of this
-//! crate sets a link than `Links::join`, which counts.
+//! crate sets a link than `Links::join`, which counts. `grown` copies the lists into chains for more items.
 //!
 //! It stands on `chain_links`: each count's list is a ring through a node of its own, behind the items' nodes.
 //! An item in no list is linked to itself.
@@ -21,13 +21,13 @@
 ghost use Rattle.std.specs.Prelude.{◌≡◌, ◌+◌, ◌<◌, ◌≤◌, [], length, ◌↔◌, IfOk, IfSome, IsSome, IsTrue, replicate, slice_get, ℕ};
 ghost use Rattle.std.specs.List.{Contains};
 ghost use Rattle.chain_links.specs.Lists.{after};
-ghost use Rattle.count_chain.specs.Chains.{list_at, IsPlaced, with_item, without_item, IsChained};
+ghost use Rattle.count_chain.specs.Chains.{list_at, IsPlaced, with_item, without_item, with_list, IsChained};
 
 use chain_links::Links;
 pub use no_memory::Memory;
 use std::alloc::Global;
-use std::marker::Model;
-use std::sync::ledger::Ledger;
+use std::marker::{Brand, Model};
+use std::sync::ledger::{Blank, Ledger};
 use step_counter::Steps;
 
 /// Items 0 to n − 1, each in the list of one count or in none.
@@ -126,6 +126,53 @@ impl CountChain {
         self.links.join(i, i, steps);
     }
 
+    /// The same lists with more items: those from the old number on are in no list.
+    pub fn grown(&self, alloc: Global, items: usize) -> Result<CountChain, Memory>
+        requires { self.now.items ≤ items }
+        ensures grown { IfOk result (λ chain. chain ≡ record { items = items; lists = self.now.lists }) }
+        ensures chained { IfOk result (λ chain. IsChained chain) }
+    {
+        self.grown_counted::<Brand>(alloc, items, Blank::new(1))
+    }
+
+    // `grown`, with a counter on the ledger of `blank`.
+    fn grown_counted<L: Ledger>(
+        &self,
+        alloc: Global,
+        items: usize,
+        blank: Blank,
+    ) -> Result<CountChain, Memory>
+        requires name { blank.name ≡ L.name }
+        requires parts { blank.parts ≡ L.parts }
+        requires some { 0 < blank.parts }
+        requires items { self.now.items ≤ items }
+        ensures grown { IfOk result (λ chain. chain ≡ record { items = items; lists = self.now.lists }) }
+        ensures chained { IfOk result (λ chain. IsChained chain) }
+    {
+        let mut steps = Steps::<L>::new(blank);
+        let mut chain = CountChain::new(alloc, items, self.counts)?;
+        for count in 0..self.counts {
+            self.copy_list(&mut chain, count, &mut steps);
+        }
+        Ok(chain)
+    }
+
+    // Puts the items of the list of `count`, none of which `chain` has in a list, into the empty list of `count` there.
+    fn copy_list<L: Ledger>(&self, chain: &mut CountChain, count: usize, steps: &mut Steps<L>)
+        requires count { count < length self.now.lists }
+        requires there { count < length chain.old.lists }
+        requires items { self.now.items ≤ chain.old.items }
+        requires empty { list_at chain.old count ≡ [] }
+        requires loose { (i : ℕ) → Contains (list_at self.now count) i → ¬ IsPlaced chain.old i }
+        ensures { chain.new ≡ with_list chain.old count (list_at self.now count) }
+    {
+        let mut next = self.first(count);
+        'items: while let Some(i) = next {
+            chain.place(i, count, steps);
+            next = self.next(i);
+        }
+    }
+
     /// Takes item `i` out of its list and puts it at the end of the list of `count`.
     pub fn shift<L: Ledger>(&mut self, i: usize, count: usize, steps: &mut Steps<L>)
         requires count { count < length self.old.lists }
@@ -143,9 +190,7 @@ impl CountChain {
 mod tests {
     use super::*;
     use std::alloc::AllocError;
-    use std::marker::Brand;
     use std::process::Abort;
-    use std::sync::ledger::Blank;
     use std::test::Fail;
 
     const ITEMS: usize = 7;

@@ -1,7 +1,5 @@
-pub mod Pairs
 pub mod Buckets
-pub mod Directions
-pub mod Rest
+pub mod Entries
+pub mod Tables
 pub mod Search
-pub mod Places
 pub mod Loads

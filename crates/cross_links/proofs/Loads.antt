@@ -1,14 +1,22 @@
 -- How the columns are put in, pair by pair and column by column.
-use Rattle.std.proofs.Common.{◌≡◌, ◌≢◌, ℕ, zero, suc, ◌+◌, ◌<◌, ◌≤◌, List, [], ◌∷◌, ◌++◌, length, map, take, get_or, set, Some, None, slice_get, refl, sym, ap, ◌∙◌, ⊎_elim, arith, get_or-set_same, get_or-set_other}
+use Rattle.std.proofs.Common.{◌≡◌, ◌≢◌, ℕ, zero, suc, ◌+◌, ◌<◌, ◌≤◌, List, [], ◌∷◌, ◌++◌, length, map, take, get_or, eqb, Option, Some, None, slice_get, refl, sym, ap, subst, ◌∙◌, ⊎_elim, arith, get_or-set_same, get_or-set_other}
+use Rattle.std.specs.List.{Contains}
 use Rattle.std.proofs.Math.ListN.{get_or-map}
-use Rattle.std.proofs.lemmas.List.{take_more, set-set, length-map, same_lists, get_or_default, get_or_read}
+use Rattle.std.proofs.lemmas.List.{map-append, take_more, length-map, get_or_read, get_or_past}
 use Rattle.std.proofs.lemmas.Option.{get_or_from_slice_get, slice_get_within}
-use Rattle.std.proofs.lemmas.Bool.{cases_eq}
+use Rattle.std.proofs.lemmas.Bool.{cond-true, cond-false, eq-eqb, ne_eqb}
 use Rattle.rational.specs.Rational.{ℚ}
-use Rattle.sparse_cols.specs.Sparse.{Sparse, IsRising, value_at, insert_pair}
+use Rattle.sparse_cols.specs.Sparse.{Sparse, IsRising, value_at}
 use Rattle.sparse_cols.proofs.Pairs.{row_below, row_from}
-use Rattle.cross_links.specs.Matrix.{line}
-use Rattle.cross_links.proofs.Pairs.{value_at-tail, insert_pair-later}
+use Rattle.chain_links.proofs.Rest.{cons_cases, head_contains, tail_contains, nothing_contains}
+use Rattle.cross_links.specs.Matrix.{Entry, Matrix, line, col, entry_at, row_in, pair_in, col_pairs, Has, IsMatrix, IsFilled}
+use Rattle.cross_links.proofs.Entries.{none_some, some_entry}
+
+value_at-head : (p : ℕ × ℚ) (ps : List (ℕ × ℚ)) (i : ℕ) → p.0 ≡ i → value_at (p ∷ ps) i ≡ Some p.1
+value_at-head p ps i e = cond-true (eqb p.0 i) _ _ (eq-eqb p.0 i e)
+
+value_at-tail : (p : ℕ × ℚ) (ps : List (ℕ × ℚ)) (i : ℕ) → p.0 ≢ i → value_at (p ∷ ps) i ≡ value_at ps i
+value_at-tail p ps i ne = cond-false (eqb p.0 i) _ _ (ne_eqb p.0 i ne)
 
 -- the pair at a place stands below the bound, and behind all before it
 pub place_below : (len : ℕ) (ps : List (ℕ × ℚ)) (k : ℕ) (pair : ℕ × ℚ) → IsRising len 0 ps → slice_get ps k ≡ Some pair → pair.0 < len
@@ -26,43 +34,60 @@ absent_before len from (p ∷ ps) (suc k) pair rising at =
     let above = place_above len (p.0 + 1) ps k pair rising.2 at in
     value_at-tail p (take k ps) pair.0 (λ e. omega arith) ∙ absent_before len (p.0 + 1) ps k pair rising.2 at
 
-insert_last : (len from : ℕ) (ps : List (ℕ × ℚ)) (k : ℕ) (pair : ℕ × ℚ) → IsRising len from ps → slice_get ps k ≡ Some pair → insert_pair pair.0 pair.1 (take k ps) ≡ take k ps ++ pair ∷ []
-insert_last len from [] k pair rising at = absurd (cc)
-insert_last len from (p ∷ ps) zero pair rising at = refl
-insert_last len from (p ∷ ps) (suc k) pair rising at =
-    let above = place_above len (p.0 + 1) ps k pair rising.2 at in
-    insert_pair-later p (take k ps) pair.0 pair.1 (omega arith) ∙ ap (λ qs. p ∷ qs) (insert_last len (p.0 + 1) ps k pair rising.2 at)
+-- a row that no pair names has no entry among the links of the pairs
+not_among : (f : ℕ → ℕ × ℚ) (ls : List ℕ) (l i : ℕ) → value_at (map f ls) i ≡ None → Contains ls l → (f l).0 ≢ i
+not_among f [] l i none held = absurd (nothing_contains l held)
+not_among f (k ∷ ks) l i none held =
+    let ne : (f k).0 ≢ i = λ e. let some = value_at-head (f k) (map f ks) i e in cc in
+    ⊎_elim
+    (λ (e : l ≡ k). subst (λ (x : ℕ). (f x).0 ≢ i) (sym e) ne)
+    (λ (later : Contains ks l). not_among f ks l i (sym (value_at-tail (f k) (map f ks) i ne) ∙ none) later)
+    (cons_cases k ks l held)
 
--- a column that has its first pairs
-pub col_is : (first cols : List (List (ℕ × ℚ))) (c : ℕ) (q : List (ℕ × ℚ)) → c < length first → cols ≡ set first c q → line cols c ≡ q
-col_is first cols c q lt is = ap (λ (l : List (List (ℕ × ℚ))). line l c) is ∙ get_or-set_same first c q [] lt
+pub absent_from : (a : Matrix) (c i : ℕ) → IsMatrix a → value_at (col_pairs a c) i ≡ None → Has a i c → ⊥
+absent_from a c i h none (l, some, in_r, in_c) =
+    let held : Contains (col a c) l = subst (λ (d : ℕ). Contains (col a d) l) in_c (h.cols.held l some) in
+    let e = some_entry (entry_at a l) some in
+    let pair : (pair_in (entry_at a l)).0 ≡ i = ap (λ (o : Option Entry). (pair_in o).0) e.1 ∙ sym (ap row_in e.1) ∙ in_r in
+    not_among (λ x. pair_in (entry_at a x)) (col a c) l i none held pair
 
-pub cols_more : (len : ℕ) (first cols cols' : List (List (ℕ × ℚ))) (c k : ℕ) (ps : List (ℕ × ℚ)) (pair : ℕ × ℚ) → IsRising len 0 ps → slice_get ps k ≡ Some pair → c < length first → cols ≡ set first c (take k ps) → cols' ≡ set cols c (insert_pair pair.0 pair.1 (line cols c)) → cols' ≡ set first c (take (k + 1) ps)
-cols_more len first cols cols' c k ps pair rising at lt is is' =
-    let more : take (k + 1) ps ≡ take k ps ++ pair ∷ [] = take_more ps k pair (slice_get_within ps k pair at) ∙ ap (λ (p : ℕ × ℚ). take k ps ++ p ∷ []) (get_or_from_slice_get ps k pair pair at) in
-    let put : insert_pair pair.0 pair.1 (line cols c) ≡ take (k + 1) ps = ap (insert_pair pair.0 pair.1) (col_is first cols c (take k ps) lt is) ∙ insert_last len 0 ps k pair rising at ∙ sym more in
-    is' ∙ ap (set cols c) put ∙ ap (λ (l : List (List (ℕ × ℚ))). set l c (take (k + 1) ps)) is ∙ set-set first c _ _
+map_same : (f g : ℕ → ℕ × ℚ) (ls : List ℕ) → ((l : ℕ) → Contains ls l → f l ≡ g l) → map f ls ≡ map g ls
+map_same f g [] same = refl
+map_same f g (k ∷ ks) same =
+    ap (λ (p : ℕ × ℚ). p ∷ map f ks) (same k (head_contains k ks)) ∙ ap (λ (ps : List (ℕ × ℚ)). g k ∷ ps) (map_same f g ks (λ l held. same l (tail_contains k ks l held)))
+
+-- an entry more in column c, the others as they were
+module _ (a b : Matrix) (l : ℕ) (e : Entry) (h : IsMatrix a) (f : IsFilled a l e b) where
+  old_pairs : (d : ℕ) → map (λ x. pair_in (entry_at b x)) (col a d) ≡ col_pairs a d
+  old_pairs d =
+      map_same (λ x. pair_in (entry_at b x)) (λ x. pair_in (entry_at a x)) (col a d)
+      (λ k held. ap pair_in (f.others k (λ (eq : k ≡ l). none_some _ (ap (entry_at a) eq ∙ f.free) (h.cols.only d k held).0)))
+
+  pub col_filled : e.1 < length a.cols → col b e.1 ≡ col a e.1 ++ l ∷ []
+  col_filled lt = ap (λ (cs : List (List ℕ)). line cs e.1) f.cols ∙ get_or-set_same a.cols e.1 _ [] lt
+
+  pub col_other : (d : ℕ) → (d ≡ e.1 → ⊥) → col b d ≡ col a d
+  col_other d ne = ap (λ (cs : List (List ℕ)). line cs d) f.cols ∙ get_or-set_other a.cols e.1 d _ [] ne
+
+  pub pairs_other : (d : ℕ) → (d ≡ e.1 → ⊥) → col_pairs b d ≡ col_pairs a d
+  pairs_other d ne = ap (map (λ x. pair_in (entry_at b x))) (col_other d ne) ∙ old_pairs d
+
+  pub pairs_filled : e.1 < length a.cols → col_pairs b e.1 ≡ col_pairs a e.1 ++ (e.0, e.2) ∷ []
+  pairs_filled lt =
+      ap (map (λ x. pair_in (entry_at b x))) (col_filled lt) ∙ map-append (λ x. pair_in (entry_at b x)) (col a e.1) (l ∷ []) ∙ ap (λ (ps : List (ℕ × ℚ)). ps ++ pair_in (entry_at b l) ∷ []) (old_pairs e.1) ∙ ap (λ (o : Option Entry). col_pairs a e.1 ++ pair_in o ∷ []) f.entry
+
+pub take_pair : (ps : List (ℕ × ℚ)) (k : ℕ) (pair : ℕ × ℚ) → slice_get ps k ≡ Some pair → take k ps ++ pair ∷ [] ≡ take (k + 1) ps
+take_pair ps k pair at =
+    sym (take_more ps k pair (slice_get_within ps k pair at) ∙ ap (λ (p : ℕ × ℚ). take k ps ++ p ∷ []) (get_or_from_slice_get ps k pair pair at))
 
 -- the lists of pairs of some columns
 abbrev pub lists_of : List (Sparse ℚ) → List (List (ℕ × ℚ))
 lists_of columns = map (λ column. column.pairs) columns
 
-module _ (columns : List (Sparse ℚ)) (cols cols' : List (List (ℕ × ℚ))) (c : ℕ) (column : Sparse ℚ) (is : cols' ≡ set cols c column.pairs) where
-  pub done_more : c < length cols → c < length columns → column ≡ get_or columns c column → ((j : ℕ) → j < c → line cols j ≡ line (lists_of columns) j) → (j : ℕ) → j < c + 1 → line cols' j ≡ line (lists_of columns) j
-  done_more lt within read done j below =
-      let none : Sparse ℚ = record { length = 0; pairs = [] } in
-      ⊎_elim
-      (λ (e : j ≡ c).
-      ap (line cols') e ∙ col_is cols cols' c column.pairs lt is ∙ ap (λ (s : Sparse ℚ). s.pairs) (get_or_read columns c column within read none) ∙ sym (get_or-map (λ (s : Sparse ℚ). s.pairs) columns c none) ∙ ap (line (lists_of columns)) (sym e))
-      (λ (ne : j ≢ c). ap (λ (l : List (List (ℕ × ℚ))). line l j) is ∙ get_or-set_other cols c j column.pairs [] ne ∙ done j (omega arith))
-      (cases_eq j c)
+pub column_pairs : (columns : List (Sparse ℚ)) (c : ℕ) (column : Sparse ℚ) → c < length columns → column ≡ get_or columns c column → get_or (lists_of columns) c [] ≡ column.pairs
+column_pairs columns c column within read =
+    let none : Sparse ℚ = record { length = 0; pairs = [] } in
+    get_or-map (λ (s : Sparse ℚ). s.pairs) columns c none ∙ ap (λ (s : Sparse ℚ). s.pairs) (sym (get_or_read columns c column within read none))
 
-  pub left_more : ((j : ℕ) → c ≤ j → line cols j ≡ []) → (j : ℕ) → c + 1 ≤ j → line cols' j ≡ []
-  left_more left j above =
-      ap (λ (l : List (List (ℕ × ℚ))). line l j) is ∙ get_or-set_other cols c j column.pairs [] (λ e. omega arith) ∙ left j (omega arith)
-
-pub all_done : (columns : List (Sparse ℚ)) (cols : List (List (ℕ × ℚ))) → length cols ≡ length columns → ((j : ℕ) → j < length columns → line cols j ≡ line (lists_of columns) j) → cols ≡ lists_of columns
-all_done columns cols len done =
-    let len' = length-map columns (λ (s : Sparse ℚ). s.pairs) in
-    same_lists cols (lists_of columns) (len ∙ sym len')
-    (λ k d lt. get_or_default cols k d [] lt ∙ done k (omega (arith, len)) ∙ get_or_default (lists_of columns) k [] d (omega (arith, len, len')))
+pub no_column : (columns : List (Sparse ℚ)) (c : ℕ) → length columns ≤ c → get_or (lists_of columns) c [] ≡ []
+no_column columns c le = get_or_past (lists_of columns) c [] (omega (arith, length-map columns (λ (s : Sparse ℚ). s.pairs)))

@@ -1,18 +1,53 @@
--- What a search for the least entry knows.
-use Rattle.std.proofs.Common.{◌≡◌, ◌≢◌, ℕ, suc, ◌-◌, ◌*◌, ◌^◌, ◌<◌, ◌≤◌, List, [], ◌∷◌, length, get_or, Bool, Option, ap, subst, ◌∙◌, ⊎_elim, inl, arith}
-use Rattle.std.specs.List.{Contains}
-use Rattle.std.specs.Option.{IsSome}
+-- What a walk along a list has met, and what a search for the least entry knows.
+use Rattle.std.proofs.Common.{◌≡◌, ℕ, ◌-◌, ◌*◌, ◌^◌, ◌<◌, ◌≤◌, List, length, get_or, eqb, Option, Some, None, slice_get, sym, ap, subst, ◌∙◌, ⊎_elim, ◌⊎◌, inl, inr, arith}
+use Rattle.std.specs.List.{Contains, IsDistinct}
+use Rattle.std.specs.Option.{IfSome}
 use Rattle.std.proofs.lemmas.Nat.{mul-le}
-use Rattle.std.proofs.lemmas.Bool.{cases_eq}
 use Rattle.std.proofs.lemmas.List.{get_or_read}
 use Rattle.std.proofs.lemmas.List.Elements.{All-contains}
-use Rattle.rational.specs.Rational.{ℚ}
-use Rattle.sparse_cols.specs.Sparse.{value_at}
-use Rattle.count_chain.specs.Chains.{Chains, list_at}
-use Rattle.cross_links.specs.Matrix.{line, cost, IsNotWorse, IsSide}
-use Rattle.cross_links.specs.Sides.{IsBucketed, Covers}
-use Rattle.cross_links.proofs.Pairs.{value_at-tail, length_le-rising}
-use Rattle.cross_links.proofs.Buckets.{active_from_some}
+use Rattle.chain_links.specs.Lists.{after}
+use Rattle.chain_links.proofs.Rest.{rest, rest-first, rest-shorter, rest_cases, IfSome-first, IfSome-after, nothing_contains}
+use Rattle.count_chain.specs.Chains.{list_at}
+use Rattle.cross_links.specs.declared.table.Table.{Table}
+use Rattle.cross_links.specs.Matrix.{Entry, Matrix, row, col, at_link, row_in, col_in, row_of, col_of, cost_of, IsLink, IsNotWorse}
+use Rattle.cross_links.specs.Held.{matrix_of, IsHeld}
+use Rattle.cross_links.proofs.Entries.{link_within, side_below, side_active}
+
+-- each item was met but those from the next on
+pub record Walked (xs : List ℕ) (next : Option ℕ) (P : ℕ → Type 0) : Type 0 where
+  pub next_in : IfSome next (λ x. Contains xs x)
+  pub met : (x : ℕ) → Contains xs x → Contains (rest next xs) x ⊎ P x
+
+pub Walked-first : (xs : List ℕ) (next : Option ℕ) (P : ℕ → Type 0) → next ≡ slice_get xs 0 → Walked xs next P
+Walked-first xs next P is = record {
+  next_in = subst (λ (o : Option ℕ). IfSome o (λ x. Contains xs x)) (sym is) (IfSome-first xs);
+  met = λ x held. inl (subst (λ (o : Option ℕ). Contains (rest o xs) x) (sym is) (subst (λ (ys : List ℕ). Contains ys x) (sym (rest-first xs)) held));
+}
+
+module _ (xs : List ℕ) (next : Option ℕ) (P : ℕ → Type 0) (h : Walked xs next P) where
+  pub walked_all : next ≡ None → (x : ℕ) → Contains xs x → P x
+  walked_all is x held =
+      ⊎_elim (λ (left : Contains (rest next xs) x). absurd (nothing_contains x (subst (λ (o : Option ℕ). Contains (rest o xs) x) is left))) (λ (met : P x). met) (h.met x held)
+
+  module _ (x : ℕ) (is : next ≡ Some x) where
+    pub walked_in : Contains xs x
+    walked_in = subst (λ (o : Option ℕ). IfSome o (λ x. Contains xs x)) is h.next_in
+
+    pub walked_shorter : (next' : Option ℕ) → IsDistinct eqb xs → next' ≡ after x xs → length (rest next' xs) < length (rest next xs)
+    walked_shorter next' once behind =
+        omega (arith, rest-shorter x xs once walked_in, ap (λ (o : Option ℕ). length (rest o xs)) behind, ap (λ (o : Option ℕ). length (rest o xs)) is)
+
+    pub Walked-more : (next' : Option ℕ) (Q : ℕ → Type 0) → IsDistinct eqb xs → next' ≡ after x xs → ((y : ℕ) → P y → Q y) → Q x → Walked xs next' Q
+    Walked-more next' Q once behind keeps here = record {
+      next_in = subst (λ (o : Option ℕ). IfSome o (λ x. Contains xs x)) (sym behind) (IfSome-after x xs);
+      met = λ y held. ⊎_elim
+          (λ (left : Contains (rest next xs) y). ⊎_elim
+          (λ (e : y ≡ x). inr (subst Q (sym e) here))
+          (λ (later : Contains (rest (after x xs) xs) y). inl (subst (λ (o : Option ℕ). Contains (rest o xs) y) (sym behind) later))
+          (rest_cases x y xs once walked_in (subst (λ (o : Option ℕ). Contains (rest o xs) y) is left)))
+          (λ (met : P y). inr (keeps y met))
+          (h.met y held);
+    }
 
 -- products of counts fit
 pub product_fits : (n a b : ℕ) → n < 2 ^ 16 → a ≤ n → b ≤ n → a * b < 2 ^ 64
@@ -20,40 +55,71 @@ product_fits n a b small la lb =
     let to : a * b ≤ 65535 * 65535 = mul-le a b 65535 65535 (omega arith) (omega arith) in
     omega arith
 
-pub line_count : (n : ℕ) (lines : List (List (ℕ × ℚ))) (active : List Bool) (i count : ℕ) (now : List (ℕ × ℚ)) → IsSide n lines active → i < length lines → now ≡ get_or lines i now → count ≡ length now → (count ≡ length (line lines i)) × (count ≤ n)
-line_count n lines active i count now h lt read is =
-    let e : count ≡ length (line lines i) = is ∙ ap length (get_or_read lines i now lt read []) in
-    (e, omega (arith, length_le-rising n 0 (line lines i) (h.rising i) (omega arith)))
+-- a cost below the square of a count
+pub settled : (a : Matrix) (l k count : ℕ) → cost_of a l < count * count → count < length (row a (row_of a k)) → count < length (col a (col_of a k)) → IsNotWorse a l k
+settled a l k count less more_row more_col =
+    let to : count * count ≤ cost_of a k = mul-le count count (length (row a (row_of a k)) - 1) (length (col a (col_of a k)) - 1) (omega arith) (omega arith) in
+    inl (omega arith)
 
--- the place of an entry
-pub place_of : (ps : List (ℕ × ℚ)) (i : ℕ) (d : ℕ × ℚ) → IsSome (value_at ps i) → (j : ℕ) × (j < length ps) × ((get_or ps j d).0 ≡ i)
-place_of [] i d some = absurd (cc)
-place_of (p ∷ ps) i d some =
-    ⊎_elim
-    (λ (e : p.0 ≡ i). (0, omega arith, e))
-    (λ (ne : p.0 ≢ i).
-    let later = place_of ps i d (subst IsSome (value_at-tail p ps i ne) some) in
-    (suc later.0, omega (arith, later.1), later.2))
-    (cases_eq p.0 i)
+module _ (t : Table) (h : IsHeld t) where
+  -- a line in a bucket is a line
+  pub bucket_row : (k r : ℕ) → Contains (list_at t.rows.buckets k) r → r < t.size
+  bucket_row k r held =
+      omega (arith, h.rows.bucketed.items, h.matrix.rows.lines_len, All-contains (λ i. i < t.rows.buckets.items) (list_at t.rows.buckets k) r (h.rows.bucketed.chained.below k) held)
 
-pub some_nonempty : (ps : List (ℕ × ℚ)) (i : ℕ) → IsSome (value_at ps i) → 0 < length ps
-some_nonempty [] i some = absurd (cc)
-some_nonempty (p ∷ ps) i some = omega arith
+  pub bucket_col : (k c : ℕ) → Contains (list_at t.cols.buckets k) c → c < t.size
+  bucket_col k c held =
+      omega (arith, h.cols.bucketed.items, h.matrix.cols.lines_len, All-contains (λ i. i < t.cols.buckets.items) (list_at t.cols.buckets k) c (h.cols.bucketed.chained.below k) held)
 
-pub bucket_below : (n : ℕ) (lines : List (List (ℕ × ℚ))) (active : List Bool) (ch : Chains) (k x : ℕ) → IsBucketed n lines active ch → Contains (list_at ch k) x → x < n
-bucket_below n lines active ch k x h held = omega (arith, h.items, All-contains (λ i. i < ch.items) (list_at ch k) x (h.chained.below k) held)
+  module _ (l : ℕ) (some : IsLink (matrix_of t) l) where
+    -- an entry is in its row, and that in the bucket of its count
+    pub in_its_row : Contains (row (matrix_of t) (row_of (matrix_of t) l)) l
+    in_its_row = h.matrix.rows.held l some
 
--- an entry's line stands in the bucket of its count
-pub in_bucket : (n : ℕ) (lines : List (List (ℕ × ℚ))) (active : List Bool) (ch : Chains) (i j k : ℕ) → IsSide n lines active → IsBucketed n lines active ch → IsSome (value_at (line lines i) j) → length (line lines i) ≡ k → Contains (list_at ch k) i
-in_bucket n lines active ch i j k side h some is =
-    subst (λ (m : ℕ). Contains (list_at ch m) i) is (h.placed i (active_from_some n lines active i j side some))
+    pub in_its_col : Contains (col (matrix_of t) (col_of (matrix_of t) l)) l
+    in_its_col = h.matrix.cols.held l some
 
-module _ (rows cols : List (List (ℕ × ℚ))) where
-  -- a cost below the square of a count
-  pub settled : (r c s d count : ℕ) → cost rows cols r c < count * count → count < length (line rows s) → count < length (line cols d) → IsNotWorse rows cols r c s d
-  settled r c s d count less more_row more_col =
-      let to : count * count ≤ cost rows cols s d = mul-le count count (length (line rows s) - 1) (length (line cols d) - 1) (omega arith) (omega arith) in
-      inl (omega arith)
+    pub row_in_bucket : (k : ℕ) → length (row (matrix_of t) (row_of (matrix_of t) l)) ≡ k → Contains (list_at t.rows.buckets k) (row_of (matrix_of t) l)
+    row_in_bucket k is =
+        subst (λ (m : ℕ). Contains (list_at t.rows.buckets m) (row_of (matrix_of t) l)) is (h.rows.bucketed.placed _ (side_active t.size t.entries.items row_in t.rows.lines.lists t.rows.active.items h.matrix.rows l some))
 
-  pub covers_at : (best : Option (ℕ × ℕ)) (s d s' d' : ℕ) → s ≡ s' → d ≡ d' → Covers rows cols best s d → Covers rows cols best s' d'
-  covers_at best s d s' d' es ed h = subst (λ (y : ℕ). Covers rows cols best s' y) ed (subst (λ (x : ℕ). Covers rows cols best x d) es h)
+    pub col_in_bucket : (k : ℕ) → length (col (matrix_of t) (col_of (matrix_of t) l)) ≡ k → Contains (list_at t.cols.buckets k) (col_of (matrix_of t) l)
+    col_in_bucket k is =
+        subst (λ (m : ℕ). Contains (list_at t.cols.buckets m) (col_of (matrix_of t) l)) is (h.cols.bucketed.placed _ (side_active t.size t.entries.items col_in t.cols.lines.lists t.cols.active.items h.matrix.cols l some))
+
+    pub some_row : 0 < length (row (matrix_of t) (row_of (matrix_of t) l))
+    some_row = omega (arith, in_its_row.1)
+
+    pub some_col : 0 < length (col (matrix_of t) (col_of (matrix_of t) l))
+    some_col = omega (arith, in_its_col.1)
+
+    -- where its link, its row and its column stand
+    pub row_link_below : l < t.rows.lines.items
+    row_link_below = omega (arith, h.row_links, link_within t.entries.items l some)
+
+    pub col_link_below : l < t.cols.lines.items
+    col_link_below = omega (arith, h.col_links, link_within t.entries.items l some)
+
+    module _ (e : Entry) (is : at_link t.entries.items l ≡ Some e) where
+      pub entry_row : row_of (matrix_of t) l ≡ e.0
+      entry_row = ap row_in is
+
+      pub entry_col : col_of (matrix_of t) l ≡ e.1
+      entry_col = ap col_in is
+
+      pub entry_row_below : e.0 < t.size
+      entry_row_below =
+          omega (arith, entry_row, side_below t.size t.entries.items row_in t.rows.lines.lists t.rows.active.items h.matrix.rows l some)
+
+      pub entry_col_below : e.1 < t.size
+      entry_col_below =
+          omega (arith, entry_col, side_below t.size t.entries.items col_in t.cols.lines.lists t.cols.active.items h.matrix.cols l some)
+
+  -- a count that was read
+  pub row_count_is : (r n : ℕ) → r < t.size → n ≡ get_or t.rows.counts.items r n → n ≡ length (row (matrix_of t) r)
+  row_count_is r n lt read =
+      get_or_read t.rows.counts.items r n (omega (arith, h.rows.counts_len, h.matrix.rows.lines_len)) read 0 ∙ h.rows.counts r
+
+  pub col_count_is : (c n : ℕ) → c < t.size → n ≡ get_or t.cols.counts.items c n → n ≡ length (col (matrix_of t) c)
+  col_count_is c n lt read =
+      get_or_read t.cols.counts.items c n (omega (arith, h.cols.counts_len, h.matrix.cols.lines_len)) read 0 ∙ h.cols.counts c

@@ -1,16 +1,25 @@
--- What the two sides stand for.
-use Rattle.std.specs.Prelude.{ℕ, List, Bool}
-use Rattle.rational.specs.Rational.{ℚ}
-use Rattle.count_chain.specs.Chains.{Chains}
-use Rattle.cross_links.specs.Matrix.{Matrix, IsMatrix}
-use Rattle.cross_links.specs.Sides.{IsBucketed}
+-- What the table stands for.
+use Rattle.std.specs.Prelude.{◌≡◌, ◌≤◌, ◌<◌, ◌^◌, ℕ, length, None}
+use Rattle.std.specs.List.{Contains}
+use Rattle.count_chain.specs.Chains.{list_at, IsChained}
+use Rattle.cross_links.specs.declared.table.Table.{Table}
+use Rattle.cross_links.specs.Matrix.{Matrix, at_link, IsMatrix}
+use Rattle.cross_links.specs.Sides.{IsKept}
 
--- the matrix of the two sides
-abbrev pub matrix_of : ℕ → List (List (ℕ × ℚ)) → List (List (ℕ × ℚ)) → List Bool → List Bool → Matrix
-matrix_of size rows cols active_rows active_cols = record { size = size; rows = rows; cols = cols; active_rows = active_rows; active_cols = active_cols }
+-- the matrix of the table
+abbrev pub matrix_of : Table → Matrix
+matrix_of t = record { size = t.size; entries = t.entries.items; rows = t.rows.lines.lists; cols = t.cols.lines.lists; active_rows = t.rows.active.items; active_cols = t.cols.active.items }
 
--- both sides hold the same entries, and each line is in its bucket
-pub record IsHeld (size : ℕ) (rows cols : List (List (ℕ × ℚ))) (active_rows active_cols : List Bool) (row_chain col_chain : Chains) : Type 0 where
-  pub matrix : IsMatrix (matrix_of size rows cols active_rows active_cols)
-  pub row_buckets : IsBucketed size rows active_rows row_chain
-  pub col_buckets : IsBucketed size cols active_cols col_chain
+-- the table is a matrix, and its free links are those at which no entry stands
+pub record IsHeld (t : Table) : Type 0 where
+  pub matrix : IsMatrix (matrix_of t)
+  pub rows : IsKept t.rows
+  pub cols : IsKept t.cols
+  pub row_links : t.rows.lines.items ≡ length t.entries.items
+  pub col_links : t.cols.lines.items ≡ length t.entries.items
+  pub fits : length t.entries.items ≤ 2 ^ 32
+  pub free_links : t.free.items ≡ length t.entries.items
+  pub free_list : length t.free.lists ≡ 1
+  pub free_chained : IsChained t.free
+  pub free_held : (l : ℕ) → l < length t.entries.items → at_link t.entries.items l ≡ None → Contains (list_at t.free 0) l
+  pub free_only : (l k : ℕ) → Contains (list_at t.free k) l → at_link t.entries.items l ≡ None

@@ -1,178 +1,154 @@
 // The search for the entry of least cost, by the buckets.
-ghost use Rattle.std.specs.Prelude.{◌≡◌, ◌<◌, ◌≤◌, ◌↔◌, ℕ, IsTrue, None, length, MatchOption};
-ghost use Rattle.cross_links.specs.Matrix.{line, HasAt, cost, IsNotWorse};
-ghost use Rattle.cross_links.specs.Sides.{IsEntryIfSome, Covers};
-ghost use Rattle.cross_links.specs.Held.{IsHeld};
+ghost use Rattle.std.specs.Prelude.{◌≡◌, ◌<◌, ◌≤◌, ℕ, IsTrue, length};
+ghost use Rattle.std.specs.List.{Contains};
+ghost use Rattle.cross_links.specs.Matrix.{row, col, row_of, col_of, cost_of, IsLink, IsNotWorse};
+ghost use Rattle.cross_links.specs.Sides.{IsLinkIfSome, Covers};
+ghost use Rattle.cross_links.specs.Held.{matrix_of, IsHeld};
 
-use crate::side::Side;
+use crate::table::Table;
 
-/// The place of the entry of least cost, then least row, then least column.
+/// The entry of least cost, then least row, then least column.
 ///
 /// Lines of few entries come first. The search ends once an entry costs less than any in lines of more entries.
-pub fn best(rows: &Side, cols: &Side) -> Option<(usize, usize)>
-    requires held { IsHeld (length rows.now.lines.items) rows.now.lines.items cols.now.lines.items rows.now.active.items cols.now.active.items rows.now.chain cols.now.chain }
-    ensures entry { IsEntryIfSome rows.now.lines.items result }
-    ensures covers { (s d : ℕ) → HasAt rows.now.lines.items s d → Covers rows.now.lines.items cols.now.lines.items result s d }
+pub fn best(table: &Table) -> Option<usize>
+    requires held { IsHeld table.now }
+    ensures link { IsLinkIfSome (matrix_of table.now) result }
+    ensures covers { (k : ℕ) → IsLink (matrix_of table.now) k → Covers (matrix_of table.now) result k }
 {
     let mut best = None;
-    for count in 1..rows.lines.len() + 1 {
-        best = best_of_rows(rows, cols, best, count);
-        best = best_of_cols(rows, cols, best, count);
-        if is_settled(rows, cols, best, count) {
+    for count in 1..table.size + 1 {
+        best = best_of_rows(table, best, count);
+        best = best_of_cols(table, best, count);
+        if is_settled(table, best, count) {
             return best;
         }
     }
     best
 }
 
-// Whether the place that was found costs less than any in a row and a column of more than `count` entries.
-fn is_settled(rows: &Side, cols: &Side, best: Option<(usize, usize)>, count: usize) -> bool
-    requires held { IsHeld (length rows.now.lines.items) rows.now.lines.items cols.now.lines.items rows.now.active.items cols.now.active.items rows.now.chain cols.now.chain }
-    requires entry { IsEntryIfSome rows.now.lines.items best }
-    requires count { count ≤ length rows.now.lines.items }
-    ensures { IsTrue result → (s d : ℕ) → count < length (line rows.now.lines.items s) → count < length (line cols.now.lines.items d) → Covers rows.now.lines.items cols.now.lines.items best s d }
+// Whether the entry that was found costs less than any in a row and a column of more than `count` entries.
+fn is_settled(table: &Table, best: Option<usize>, count: usize) -> bool
+    requires held { IsHeld table.now }
+    requires link { IsLinkIfSome (matrix_of table.now) best }
+    requires count { count ≤ table.now.size }
+    ensures { IsTrue result → (k : ℕ) → count < length (row (matrix_of table.now) (row_of (matrix_of table.now) k)) → count < length (col (matrix_of table.now) (col_of (matrix_of table.now) k)) → Covers (matrix_of table.now) best k }
 {
     match best {
-        Some((r, c)) => cost(rows, cols, r, c) < count * count,
+        Some(link) => cost(table, link) < count * count,
         None => false,
     }
 }
 
-// The best of the place that was found and of those in rows of `count` entries.
-fn best_of_rows(
-    rows: &Side,
-    cols: &Side,
-    mut best: Option<(usize, usize)>,
-    count: usize,
-) -> Option<(usize, usize)>
-    requires held { IsHeld (length rows.now.lines.items) rows.now.lines.items cols.now.lines.items rows.now.active.items cols.now.active.items rows.now.chain cols.now.chain }
-    requires entry { IsEntryIfSome rows.now.lines.items best }
-    requires count { count ≤ length rows.now.lines.items }
-    ensures entry { IsEntryIfSome rows.now.lines.items result }
-    ensures covers { (s d : ℕ) → HasAt rows.now.lines.items s d → length (line rows.now.lines.items s) ≡ count → Covers rows.now.lines.items cols.now.lines.items result s d }
-    ensures kept { (s d : ℕ) → Covers rows.now.lines.items cols.now.lines.items best s d → Covers rows.now.lines.items cols.now.lines.items result s d }
+// The best of the entry that was found and of those in rows of `count` entries.
+fn best_of_rows(table: &Table, mut best: Option<usize>, count: usize) -> Option<usize>
+    requires held { IsHeld table.now }
+    requires link { IsLinkIfSome (matrix_of table.now) best }
+    requires count { count ≤ table.now.size }
+    ensures link { IsLinkIfSome (matrix_of table.now) result }
+    ensures covers { (k : ℕ) → IsLink (matrix_of table.now) k → length (row (matrix_of table.now) (row_of (matrix_of table.now) k)) ≡ count → Covers (matrix_of table.now) result k }
+    ensures kept { (k : ℕ) → Covers (matrix_of table.now) best k → Covers (matrix_of table.now) result k }
 {
-    let mut next = rows.chain.first(count);
+    let mut next = table.rows.buckets.first(count);
     'bucket: while let Some(r) = next {
-        best = best_in_row(rows, cols, best, r);
-        next = rows.chain.next(r);
+        best = best_in_row(table, best, r);
+        next = table.rows.buckets.next(r);
     }
     best
 }
 
-// The best of the place that was found and of those in columns of `count` entries.
-fn best_of_cols(
-    rows: &Side,
-    cols: &Side,
-    mut best: Option<(usize, usize)>,
-    count: usize,
-) -> Option<(usize, usize)>
-    requires held { IsHeld (length rows.now.lines.items) rows.now.lines.items cols.now.lines.items rows.now.active.items cols.now.active.items rows.now.chain cols.now.chain }
-    requires entry { IsEntryIfSome rows.now.lines.items best }
-    requires count { count ≤ length rows.now.lines.items }
-    ensures entry { IsEntryIfSome rows.now.lines.items result }
-    ensures covers { (s d : ℕ) → HasAt rows.now.lines.items s d → length (line cols.now.lines.items d) ≡ count → Covers rows.now.lines.items cols.now.lines.items result s d }
-    ensures kept { (s d : ℕ) → Covers rows.now.lines.items cols.now.lines.items best s d → Covers rows.now.lines.items cols.now.lines.items result s d }
+// The best of the entry that was found and of those in columns of `count` entries.
+fn best_of_cols(table: &Table, mut best: Option<usize>, count: usize) -> Option<usize>
+    requires held { IsHeld table.now }
+    requires link { IsLinkIfSome (matrix_of table.now) best }
+    requires count { count ≤ table.now.size }
+    ensures link { IsLinkIfSome (matrix_of table.now) result }
+    ensures covers { (k : ℕ) → IsLink (matrix_of table.now) k → length (col (matrix_of table.now) (col_of (matrix_of table.now) k)) ≡ count → Covers (matrix_of table.now) result k }
+    ensures kept { (k : ℕ) → Covers (matrix_of table.now) best k → Covers (matrix_of table.now) result k }
 {
-    let mut next = cols.chain.first(count);
+    let mut next = table.cols.buckets.first(count);
     'bucket: while let Some(c) = next {
-        best = best_in_col(rows, cols, best, c);
-        next = cols.chain.next(c);
+        best = best_in_col(table, best, c);
+        next = table.cols.buckets.next(c);
     }
     best
 }
 
-// The best of the place that was found and of those in row `r`.
-fn best_in_row(
-    rows: &Side,
-    cols: &Side,
-    mut best: Option<(usize, usize)>,
-    r: usize,
-) -> Option<(usize, usize)>
-    requires held { IsHeld (length rows.now.lines.items) rows.now.lines.items cols.now.lines.items rows.now.active.items cols.now.active.items rows.now.chain cols.now.chain }
-    requires entry { IsEntryIfSome rows.now.lines.items best }
-    requires row { r < length rows.now.lines.items }
-    ensures entry { IsEntryIfSome rows.now.lines.items result }
-    ensures covers { (d : ℕ) → HasAt rows.now.lines.items r d → Covers rows.now.lines.items cols.now.lines.items result r d }
-    ensures kept { (s d : ℕ) → Covers rows.now.lines.items cols.now.lines.items best s d → Covers rows.now.lines.items cols.now.lines.items result s d }
+// The best of the entry that was found and of those in row `r`.
+fn best_in_row(table: &Table, mut best: Option<usize>, r: usize) -> Option<usize>
+    requires held { IsHeld table.now }
+    requires link { IsLinkIfSome (matrix_of table.now) best }
+    requires row { r < table.now.size }
+    ensures link { IsLinkIfSome (matrix_of table.now) result }
+    ensures covers { (k : ℕ) → Contains (row (matrix_of table.now) r) k → Covers (matrix_of table.now) result k }
+    ensures kept { (k : ℕ) → Covers (matrix_of table.now) best k → Covers (matrix_of table.now) result k }
 {
-    let row = &rows.lines[r];
-    for k in 0..row.count() {
-        best = better(rows, cols, best, r, row.pair(k).0);
+    let mut next = table.rows.lines.first(r);
+    'entries: while let Some(link) = next {
+        best = better(table, best, link);
+        next = table.rows.lines.next(link);
     }
     best
 }
 
-// The best of the place that was found and of those in column `c`.
-fn best_in_col(
-    rows: &Side,
-    cols: &Side,
-    mut best: Option<(usize, usize)>,
-    c: usize,
-) -> Option<(usize, usize)>
-    requires held { IsHeld (length rows.now.lines.items) rows.now.lines.items cols.now.lines.items rows.now.active.items cols.now.active.items rows.now.chain cols.now.chain }
-    requires entry { IsEntryIfSome rows.now.lines.items best }
-    requires col { c < length rows.now.lines.items }
-    ensures entry { IsEntryIfSome rows.now.lines.items result }
-    ensures covers { (s : ℕ) → HasAt rows.now.lines.items s c → Covers rows.now.lines.items cols.now.lines.items result s c }
-    ensures kept { (s d : ℕ) → Covers rows.now.lines.items cols.now.lines.items best s d → Covers rows.now.lines.items cols.now.lines.items result s d }
+// The best of the entry that was found and of those in column `c`.
+fn best_in_col(table: &Table, mut best: Option<usize>, c: usize) -> Option<usize>
+    requires held { IsHeld table.now }
+    requires link { IsLinkIfSome (matrix_of table.now) best }
+    requires col { c < table.now.size }
+    ensures link { IsLinkIfSome (matrix_of table.now) result }
+    ensures covers { (k : ℕ) → Contains (col (matrix_of table.now) c) k → Covers (matrix_of table.now) result k }
+    ensures kept { (k : ℕ) → Covers (matrix_of table.now) best k → Covers (matrix_of table.now) result k }
 {
-    let col = &cols.lines[c];
-    for k in 0..col.count() {
-        best = better(rows, cols, best, col.pair(k).0, c);
+    let mut next = table.cols.lines.first(c);
+    'entries: while let Some(link) = next {
+        best = better(table, best, link);
+        next = table.cols.lines.next(link);
     }
     best
 }
 
-// The better of the place that was found and that in row `r` and column `c`.
-fn better(
-    rows: &Side,
-    cols: &Side,
-    best: Option<(usize, usize)>,
-    r: usize,
-    c: usize,
-) -> Option<(usize, usize)>
-    requires held { IsHeld (length rows.now.lines.items) rows.now.lines.items cols.now.lines.items rows.now.active.items cols.now.active.items rows.now.chain cols.now.chain }
-    requires entry { IsEntryIfSome rows.now.lines.items best }
-    requires has { HasAt rows.now.lines.items r c }
-    ensures entry { IsEntryIfSome rows.now.lines.items result }
-    ensures covers { Covers rows.now.lines.items cols.now.lines.items result r c }
-    ensures kept { (s d : ℕ) → Covers rows.now.lines.items cols.now.lines.items best s d → Covers rows.now.lines.items cols.now.lines.items result s d }
+// The better of the entry that was found and that at `link`.
+fn better(table: &Table, best: Option<usize>, link: usize) -> Option<usize>
+    requires held { IsHeld table.now }
+    requires best { IsLinkIfSome (matrix_of table.now) best }
+    requires link { IsLink (matrix_of table.now) link }
+    ensures link { IsLinkIfSome (matrix_of table.now) result }
+    ensures covers { Covers (matrix_of table.now) result link }
+    ensures kept { (k : ℕ) → Covers (matrix_of table.now) best k → Covers (matrix_of table.now) result k }
 {
     match best {
-        Some((s, d)) => Some(better_of(rows, cols, (s, d), (r, c))),
-        None => Some((r, c)),
+        Some(found) => Some(better_of(table, found, link)),
+        None => Some(link),
     }
 }
 
-// The better of two places.
-fn better_of(rows: &Side, cols: &Side, p: (usize, usize), q: (usize, usize)) -> (usize, usize)
-    requires held { IsHeld (length rows.now.lines.items) rows.now.lines.items cols.now.lines.items rows.now.active.items cols.now.active.items rows.now.chain cols.now.chain }
-    requires has { HasAt rows.now.lines.items p.0 p.1 }
-    requires has_other { HasAt rows.now.lines.items q.0 q.1 }
-    ensures has { HasAt rows.now.lines.items result.0 result.1 }
-    ensures first { (s d : ℕ) → IsNotWorse rows.now.lines.items cols.now.lines.items p.0 p.1 s d → IsNotWorse rows.now.lines.items cols.now.lines.items result.0 result.1 s d }
-    ensures second { (s d : ℕ) → IsNotWorse rows.now.lines.items cols.now.lines.items q.0 q.1 s d → IsNotWorse rows.now.lines.items cols.now.lines.items result.0 result.1 s d }
+// The better of two entries.
+fn better_of(table: &Table, p: usize, q: usize) -> usize
+    requires held { IsHeld table.now }
+    requires has { IsLink (matrix_of table.now) p }
+    requires has_other { IsLink (matrix_of table.now) q }
+    ensures has { IsLink (matrix_of table.now) result }
+    ensures first { (k : ℕ) → IsNotWorse (matrix_of table.now) p k → IsNotWorse (matrix_of table.now) result k }
+    ensures second { (k : ℕ) → IsNotWorse (matrix_of table.now) q k → IsNotWorse (matrix_of table.now) result k }
 {
-    let (cost_of_p, cost_of_q) = (cost(rows, cols, p.0, p.1), cost(rows, cols, q.0, q.1));
+    let (cost_of_p, cost_of_q) = (cost(table, p), cost(table, q));
     if cost_of_p < cost_of_q {
         return p;
     }
     if cost_of_q < cost_of_p {
         return q;
     }
-    if p.0 < q.0 || (p.0 == q.0 && p.1 <= q.1) {
-        p
-    } else {
-        q
-    }
+    let (r, c, _) = table.entry(p);
+    let (s, d, _) = table.entry(q);
+    if r < s || (r == s && c <= d) { p } else { q }
 }
 
-// How many fills the entry in row `r` and column `c` makes at most as pivot.
-fn cost(rows: &Side, cols: &Side, r: usize, c: usize) -> usize
-    requires held { IsHeld (length rows.now.lines.items) rows.now.lines.items cols.now.lines.items rows.now.active.items cols.now.active.items rows.now.chain cols.now.chain }
-    requires has { HasAt rows.now.lines.items r c }
-    ensures { result ≡ cost rows.now.lines.items cols.now.lines.items r c }
+// How many fills the entry makes at most as pivot.
+fn cost(table: &Table, link: usize) -> usize
+    requires held { IsHeld table.now }
+    requires has { IsLink (matrix_of table.now) link }
+    ensures { result ≡ cost_of (matrix_of table.now) link }
 {
-    (rows.lines[r].count() - 1) * (cols.lines[c].count() - 1)
+    let (r, c, _) = table.entry(link);
+    (table.rows.counts[r] - 1) * (table.cols.counts[c] - 1)
 }

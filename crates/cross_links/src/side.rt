@@ -1,121 +1,100 @@
-// The rows, or the columns, with the bucket of each count.
-ghost use Rattle.std.specs.Prelude.{◌≡◌, ◌<◌, [], true, false, length, replicate, slice_set, None, IfOk, OnOk, OnErr, IsSome, MatchOption};
-ghost use Rattle.sparse_cols.specs.Sparse.{value_at, insert_pair, remove_row};
-ghost use Rattle.cross_links.specs.Matrix.{line, is_active, set_pair};
+// The rows, or the columns: the links of each, their counts, and the bucket of each count.
+ghost use Rattle.std.specs.Prelude.{◌≡◌, ◌<◌, ◌+◌, ◌^◌, ℕ, [], true, false, length, replicate, slice_set, IfOk};
+ghost use Rattle.std.specs.List.{Contains};
+ghost use Rattle.count_chain.specs.Chains.{list_at, IsPlaced, with_item, without_item};
+ghost use Rattle.cross_links.specs.Matrix.{is_active};
 ghost use Rattle.cross_links.specs.Sides.{IsKept};
 
-use crate::line::Line;
 use count_chain::CountChain;
-use exact_frac::Frac;
 use no_memory::Memory;
 use std::alloc::Global;
 use std::sync::ledger::Ledger;
 use step_counter::Steps;
 
-/// The lines of one direction, which of them were not removed, and these in the buckets of their counts.
+/// The links of each line of one direction and their number, which lines were not removed, and these in the
+/// buckets of their counts.
 #[derive(Drop)]
 pub struct Side {
-    pub lines: Vec<Line>,
+    pub lines: CountChain,
+    pub counts: Vec<usize>,
     pub active: Vec<bool>,
-    pub chain: CountChain,
+    pub buckets: CountChain,
 }
 
 impl Side {
-    /// As many lines as `size` says, each with no entry.
-    pub fn new<L: Ledger>(alloc: Global, size: usize, steps: &mut Steps<L>) -> Result<Side, Memory>
-        ensures lines { IfOk result (λ side. side.lines.items ≡ replicate size []) }
+    /// As many lines as `size` says, each with no entry, for `links` links.
+    pub fn new<L: Ledger>(
+        alloc: Global,
+        size: usize,
+        links: usize,
+        steps: &mut Steps<L>,
+    ) -> Result<Side, Memory>
+        ensures lines { IfOk result (λ side. side.lines ≡ record { items = links; lists = replicate size [] }) }
         ensures active { IfOk result (λ side. side.active.items ≡ replicate size true) }
-        ensures kept { IfOk result (λ side. IsKept size side.lines.items side.active.items side.chain) }
+        ensures kept { IfOk result (λ side. IsKept side) }
     {
-        let lists = size.checked_add(1).ok_or(Memory)?;
-        let mut chain = CountChain::new(alloc, size, lists)?;
-        let mut lines = Vec::new(alloc);
+        let lines = CountChain::new(alloc, links, size)?;
+        let counts_below = size.checked_add(1).ok_or(Memory)?;
+        let mut buckets = CountChain::new(alloc, size, counts_below)?;
+        let mut counts = Vec::new(alloc);
         let mut active = Vec::new(alloc);
         for i in 0..size {
-            lines.push(Line::empty(alloc))?;
+            counts.push(0)?;
             active.push(true)?;
-            chain.place(i, 0, steps);
+            buckets.place(i, 0, steps);
         }
         Ok(Side {
             lines,
+            counts,
             active,
-            chain,
+            buckets,
         })
     }
 
-    /// Puts in an entry of line `i` at index `at`. After a refusal the side is as it was.
-    pub fn insert<L: Ledger>(
-        &mut self,
-        i: usize,
-        at: usize,
-        v: Frac,
-        steps: &mut Steps<L>,
-    ) -> Result<(), Memory>
-        requires kept { IsKept (length self.old.lines.items) self.old.lines.items self.old.active.items self.old.chain }
-        requires line { i < length self.old.lines.items }
-        requires at { at < length self.old.lines.items }
+    /// Puts a link, which is in no line, at the end of line `i`.
+    pub fn link<L: Ledger>(&mut self, i: usize, link: usize, steps: &mut Steps<L>)
+        requires kept { IsKept self.old }
+        requires line { i < length self.old.lines.lists }
+        requires link { link < self.old.lines.items }
+        requires loose { ¬ IsPlaced self.old.lines link }
         requires active { is_active self.old.active.items i ≡ true }
-        requires absent { value_at (line self.old.lines.items i) at ≡ None }
-        ensures ok { OnOk result (self.new.lines.items ≡ slice_set self.old.lines.items i (insert_pair at v (line self.old.lines.items i))) }
-        ensures err { OnErr result (self.new.lines.items ≡ self.old.lines.items) }
+        requires fits { length (list_at self.old.lines i) < length self.old.lines.lists }
+        requires small { length self.old.lines.lists < 2 ^ 16 }
+        ensures lines { self.new.lines ≡ with_item self.old.lines link i }
         ensures active { self.new.active.items ≡ self.old.active.items }
-        ensures kept { IsKept (length self.old.lines.items) self.new.lines.items self.new.active.items self.new.chain }
+        ensures kept { IsKept self.new }
     {
-        self.lines[i].insert(at, v)?;
-        self.chain.shift(i, self.lines[i].count(), steps);
-        Ok(())
+        self.lines.place(link, i, steps);
+        self.counts[i] += 1;
+        self.buckets.shift(i, self.counts[i], steps);
     }
 
-    /// Takes out the entry of line `i` at index `at`.
-    pub fn remove<L: Ledger>(&mut self, i: usize, at: usize, steps: &mut Steps<L>)
-        requires kept { IsKept (length self.old.lines.items) self.old.lines.items self.old.active.items self.old.chain }
-        requires line { i < length self.old.lines.items }
-        requires present { IsSome (value_at (line self.old.lines.items i) at) }
-        ensures lines { self.new.lines.items ≡ slice_set self.old.lines.items i (remove_row at (line self.old.lines.items i)) }
+    /// Takes a link out of line `i`.
+    pub fn unlink<L: Ledger>(&mut self, i: usize, link: usize, steps: &mut Steps<L>)
+        requires kept { IsKept self.old }
+        requires held { Contains (list_at self.old.lines i) link }
+        requires active { is_active self.old.active.items i ≡ true }
+        requires fits { length (list_at self.old.lines i) < length self.old.lines.lists + 1 }
+        ensures lines { self.new.lines ≡ without_item self.old.lines link }
         ensures active { self.new.active.items ≡ self.old.active.items }
-        ensures kept { IsKept (length self.old.lines.items) self.new.lines.items self.new.active.items self.new.chain }
+        ensures kept { IsKept self.new }
     {
-        self.lines[i].remove(at);
-        self.chain.shift(i, self.lines[i].count(), steps);
-    }
-
-    /// Changes the value of line `i` at index `at`.
-    pub fn set(&mut self, i: usize, at: usize, v: Frac)
-        requires kept { IsKept (length self.old.lines.items) self.old.lines.items self.old.active.items self.old.chain }
-        requires line { i < length self.old.lines.items }
-        ensures lines { self.new.lines.items ≡ slice_set self.old.lines.items i (set_pair at v (line self.old.lines.items i)) }
-        ensures active { self.new.active.items ≡ self.old.active.items }
-        ensures kept { IsKept (length self.old.lines.items) self.new.lines.items self.new.active.items self.new.chain }
-    {
-        self.lines[i].set(at, v);
-    }
-
-    /// The last index at which line `i` has an entry.
-    pub fn last(&self, i: usize) -> Option<usize>
-        requires kept { IsKept (length self.now.lines.items) self.now.lines.items self.now.active.items self.now.chain }
-        requires line { i < length self.now.lines.items }
-        ensures { MatchOption result (line self.now.lines.items i ≡ []) (λ at. IsSome (value_at (line self.now.lines.items i) at)) }
-    {
-        let line = &self.lines[i];
-        let count = line.count();
-        if count == 0 {
-            None
-        } else {
-            Some(line.pair(count - 1).0)
-        }
+        self.lines.unlink(link, steps);
+        self.counts[i] -= 1;
+        self.buckets.shift(i, self.counts[i], steps);
     }
 
     /// Takes line `i`, which has no entry left, out of its bucket.
     pub fn retire<L: Ledger>(&mut self, i: usize, steps: &mut Steps<L>)
-        requires kept { IsKept (length self.old.lines.items) self.old.lines.items self.old.active.items self.old.chain }
-        requires line { i < length self.old.lines.items }
+        requires kept { IsKept self.old }
+        requires line { i < length self.old.lines.lists }
         requires active { is_active self.old.active.items i ≡ true }
-        requires empty { line self.old.lines.items i ≡ [] }
-        ensures lines { self.new.lines.items ≡ self.old.lines.items }
+        requires empty { list_at self.old.lines i ≡ [] }
+        ensures lines { self.new.lines ≡ self.old.lines }
         ensures active { self.new.active.items ≡ slice_set self.old.active.items i false }
-        ensures kept { IsKept (length self.old.lines.items) self.new.lines.items self.new.active.items self.new.chain }
+        ensures kept { IsKept self.new }
     {
         self.active[i] = false;
-        self.chain.unlink(i, steps);
+        self.buckets.unlink(i, steps);
     }
 }

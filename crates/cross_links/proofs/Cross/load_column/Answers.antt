@@ -1,11 +1,22 @@
 -- Each pair goes behind those before it.
-use Rattle.std.proofs.Common.{ℕ, ◌<◌, List, length, true, false, take, ap, ◌∙◌, arith}
+use Rattle.std.proofs.Common.{ℕ, ◌<◌, List, [], ◌∷◌, ◌++◌, length, map, refl, true, false, ap, ◌∙◌, arith}
 use Rattle.std.proofs.lemmas.List.{get_or-replicate}
 use Rattle.rational.specs.Rational.{ℚ}
 use Rattle.sparse_cols.specs.Sparse.{value_at}
-use Rattle.cross_links.specs.Matrix.{Matrix}
-use Rattle.cross_links.proofs.Loads.{place_below, absent_before, col_is, cols_more}
+use Rattle.cross_links.specs.Matrix.{Entry, entry_at, pair_in}
+use Rattle.cross_links.proofs.Loads.{place_below, absent_before, absent_from, col_other, pairs_other, pairs_filled, take_pair}
 use Rattle.cross_links.proofs.Cross.load_column.Goals as goal
+
+pub loop-k-init : goal.loop-k-init
+loop-k-init c = record {
+  size = refl;
+  pairs = ap (map (λ l. pair_in (entry_at c.args.self.now l))) c.requires.empty;
+  others = λ d ne. refl;
+  other_pairs = λ d ne. refl;
+  active_rows = refl;
+  active_cols = refl;
+  matrix = c.requires.matrix;
+}
 
 pub fill-requires-clause-row : goal.fill-requires-clause-row
 fill-requires-clause-row c =
@@ -23,21 +34,25 @@ fill-requires-clause-active_row c =
 pub fill-requires-clause-absent : goal.fill-requires-clause-absent
 fill-requires-clause-absent c =
     let ps = c.args.column.now.pairs in
-    let first = c.args.self.now.cols in
-    let within : c.args.c < length first = omega (arith, c.requires.matrix.cols.lines_len, c.requires.col) in
-    let is = col_is first c.loop-k.self.cols c.args.c (take c.loop-k.k ps) within c.loop-k.invariant.cols in
-    c.loop-k.invariant.matrix.crossed.same c.pair-r.result.0 c.args.c ∙ ap (λ (q : List (ℕ × ℚ)). value_at q c.pair-r.result.0) is ∙ absent_before c.args.column.now.length 0 ps c.loop-k.k c.pair-r.result c.count-k-end.ensures.rising c.pair-r.ensures
+    absent_from c.loop-k.self c.args.c c.pair-r.result.0 c.loop-k.invariant.matrix
+    (ap (λ (q : List (ℕ × ℚ)). value_at q c.pair-r.result.0) c.loop-k.invariant.pairs ∙ absent_before c.args.column.now.length 0 ps c.loop-k.k c.pair-r.result c.count-k-end.ensures.rising c.pair-r.ensures)
 
 pub loop-k-preserved : goal.loop-k-preserved
 loop-k-preserved c =
     let ps = c.args.column.now.pairs in
-    let first = c.args.self.now.cols in
-    let within : c.args.c < length first = omega (arith, c.requires.matrix.cols.lines_len, c.requires.col) in
+    let a = c.loop-k.self in
+    let b = c.fill.new.self in
+    let link = c.in_ok-fill.field-0 in
+    let e : Entry = (c.pair-r.result.0, c.args.c, c.pair-r.result.1) in
+    let inv = c.loop-k.invariant in
     let filled = c.in_ok-fill.ensures.ok in
+    let lt : c.args.c < length a.cols = omega (arith, inv.matrix.cols.lines_len, inv.size, c.requires.col) in
     record {
-      size = ap (λ (a : Matrix). a.size) filled ∙ c.loop-k.invariant.size;
-      cols = cols_more c.args.column.now.length first c.loop-k.self.cols c.fill.new.self.cols c.args.c c.loop-k.k ps c.pair-r.result c.count-k-end.ensures.rising c.pair-r.ensures within c.loop-k.invariant.cols (ap (λ (a : Matrix). a.cols) filled);
-      active_rows = ap (λ (a : Matrix). a.active_rows) filled ∙ c.loop-k.invariant.active_rows;
-      active_cols = ap (λ (a : Matrix). a.active_cols) filled ∙ c.loop-k.invariant.active_cols;
+      size = filled.size ∙ inv.size;
+      pairs = pairs_filled a b link e inv.matrix filled lt ∙ ap (λ (q : List (ℕ × ℚ)). q ++ c.pair-r.result ∷ []) inv.pairs ∙ take_pair ps c.loop-k.k c.pair-r.result c.pair-r.ensures;
+      others = λ d ne. col_other a b link e inv.matrix filled d ne ∙ inv.others d ne;
+      other_pairs = λ d ne. pairs_other a b link e inv.matrix filled d ne ∙ inv.other_pairs d ne;
+      active_rows = filled.active_rows ∙ inv.active_rows;
+      active_cols = filled.active_cols ∙ inv.active_cols;
       matrix = c.in_ok-fill.ensures.matrix;
     }

@@ -1,20 +1,13 @@
--- The index that was found is that of an entry.
-use Rattle.std.proofs.Common.{ap, subst, arith}
-use Rattle.cross_links.specs.Matrix.{Matrix, Has}
-use Rattle.cross_links.proofs.Places.{read_has, IsLink-of}
+-- What is in the list is an entry.
+use Rattle.std.proofs.Common.{subst, sym, ◌∙◌}
+use Rattle.count_chain.specs.Chains.{list_at}
+use Rattle.cross_links.specs.Matrix.{Matrix, IsLink}
+use Rattle.cross_links.proofs.Entries.{first_link}
 use Rattle.cross_links.proofs.Cross.row_first.Goals as goal
-
-pub link-requires-clause-col : goal.link-requires-clause-col
-link-requires-clause-col c =
-    let s = c.self.inside in
-    let size = ap (λ (a : Matrix). a.size) c.self.view_is in
-    let found = read_has s.size s.rows.lines.items s.rows.active.items c.args.r c.in-Some.c c.index.result.now c.self.invariant.matrix.rows (omega (arith, size)) c.index.ensures c.in-Some.ensures.entry in
-    omega (arith, found.1, size)
 
 pub returns-in-Some-clause-link : goal.returns-in-Some-clause-link
 returns-in-Some-clause-link c =
-    let s = c.self.inside in
-    let size = ap (λ (a : Matrix). a.size) c.self.view_is in
-    let m = c.self.invariant.matrix in
-    let found = read_has s.size s.rows.lines.items s.rows.active.items c.args.r c.in-Some.c c.index.result.now m.rows (omega (arith, size)) c.index.ensures c.in-Some.ensures.entry in
-    IsLink-of c.args.self.now c.args.r c.in-Some.c c.link.result (omega (arith, found.1, size)) c.link.ensures (subst (λ (a : Matrix). Has a c.args.r c.in-Some.c) c.self.view_is found.0)
+    let l = c.in-Some.link in
+    let lines = c.self.inside.table.rows.lines in
+    let held = first_link (list_at lines c.args.r) l (sym c.first.ensures.first ∙ c.in-Some.is) in
+    subst (λ (a : Matrix). IsLink a l) c.self.view_is (c.self.invariant.matrix.rows.only c.args.r l held).0

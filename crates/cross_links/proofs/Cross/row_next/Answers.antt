@@ -1,20 +1,15 @@
--- The index that was found is that of an entry.
-use Rattle.std.proofs.Common.{ap, subst, arith}
-use Rattle.cross_links.specs.Matrix.{Matrix, Has}
-use Rattle.cross_links.proofs.Places.{read_has, IsLink-of}
+-- What is behind an entry in the list is an entry.
+use Rattle.std.proofs.Common.{subst, sym, ◌∙◌}
+use Rattle.cross_links.specs.Matrix.{Matrix, IsLink, row, row_of}
+use Rattle.cross_links.specs.Held.{matrix_of}
+use Rattle.cross_links.proofs.Entries.{behind_in}
 use Rattle.cross_links.proofs.Cross.row_next.Goals as goal
-
-pub link-requires-clause-col : goal.link-requires-clause-col
-link-requires-clause-col c =
-    let s = c.self.inside in
-    let size = ap (λ (a : Matrix). a.size) c.self.view_is in
-    let found = read_has s.size s.rows.lines.items s.rows.active.items c.place-r.result.0 c.in-Some.d c.index.result.now c.self.invariant.matrix.rows (omega (arith, size)) c.index.ensures c.in-Some.ensures.entry in
-    omega (arith, found.1, size)
 
 pub returns-in-Some-clause-link : goal.returns-in-Some-clause-link
 returns-in-Some-clause-link c =
-    let s = c.self.inside in
-    let size = ap (λ (a : Matrix). a.size) c.self.view_is in
-    let m = c.self.invariant.matrix in
-    let found = read_has s.size s.rows.lines.items s.rows.active.items c.place-r.result.0 c.in-Some.d c.index.result.now m.rows (omega (arith, size)) c.index.ensures c.in-Some.ensures.entry in
-    IsLink-of c.args.self.now c.place-r.result.0 c.in-Some.d c.link.result (omega (arith, found.1, size)) c.link.ensures (subst (λ (a : Matrix). Has a c.place-r.result.0 c.in-Some.d) c.self.view_is found.0)
+    let l = c.in-Some.behind in
+    let a = matrix_of c.self.inside.table in
+    let h = c.self.invariant.matrix in
+    let some : IsLink a c.args.link = subst (λ (x : Matrix). IsLink x c.args.link) (sym c.self.view_is) c.requires in
+    let held = behind_in (row a (row_of a c.args.link)) c.args.link l (sym (c.next.ensures.next (row_of a c.args.link) (h.rows.held c.args.link some)) ∙ c.in-Some.is) in
+    subst (λ (x : Matrix). IsLink x l) c.self.view_is (h.rows.only (row_of a c.args.link) l held).0

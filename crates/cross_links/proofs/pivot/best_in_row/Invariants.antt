@@ -1,12 +1,18 @@
--- The place found so far is as good as each before place k, and as the one to begin with.
-use Rattle.std.proofs.Common.{ℕ, ◌<◌, get_or}
-use Rattle.rational.specs.Rational.{zero_ℚ}
-use Rattle.cross_links.specs.Sides.{IsEntryIfSome, Covers}
+-- What is left of the line is followed, and each other entry of it was looked at.
+use Rattle.std.proofs.Common.{ℕ, length}
+use Rattle.chain_links.proofs.Rest.{rest}
+use Rattle.cross_links.specs.Matrix.{row}
+use Rattle.cross_links.specs.Sides.{IsLinkIfSome, Covers}
+use Rattle.cross_links.specs.Held.{matrix_of}
+use Rattle.cross_links.proofs.Search.{Walked}
 use Rattle.cross_links.proofs.pivot.best_in_row.Given as goal
 
-abbrev pub invariant-loop-k : goal.invariant-loop-k
-invariant-loop-k l = record {
-  entry : IsEntryIfSome l.rows.lines.items l.best;
-  covers : (j : ℕ) → j < l.k → Covers l.rows.lines.items l.cols.lines.items l.best l.r (get_or l.row j (0, zero_ℚ)).0;
-  kept : (s d : ℕ) → Covers l.rows.lines.items l.cols.lines.items l.fn.best s d → Covers l.rows.lines.items l.cols.lines.items l.best s d;
+abbrev pub invariant-entries : goal.invariant-entries
+invariant-entries l = record {
+  link : IsLinkIfSome (matrix_of l.table) l.best;
+  walked : Walked (row (matrix_of l.table) l.r) l.next (Covers (matrix_of l.table) l.best);
+  kept : (k : ℕ) → Covers (matrix_of l.table) l.fn.best k → Covers (matrix_of l.table) l.best k;
 }
+
+abbrev pub decreases-entries : goal.decreases-entries
+decreases-entries l = length (rest l.next (row (matrix_of l.table) l.r))

@@ -1,65 +1,47 @@
 -- The bucket is followed to its end.
-use Rattle.std.proofs.Common.{◌≡◌, ℕ, List, length, Option, ap, sym, subst, ⊎_elim, inl, inr, arith}
+use Rattle.std.proofs.Common.{ℕ, arith}
 use Rattle.std.specs.List.{Contains}
-use Rattle.std.specs.Option.{IsSome, IfSome}
-use Rattle.chain_links.specs.Lists.{after}
 use Rattle.count_chain.specs.Chains.{list_at}
-use Rattle.cross_links.specs.Matrix.{HasAt}
+use Rattle.cross_links.specs.Matrix.{col, col_of}
 use Rattle.cross_links.specs.Sides.{Covers}
-use Rattle.cross_links.proofs.Buckets.{nothing_contains}
-use Rattle.cross_links.proofs.Rest.{rest, IfSome-first, IfSome-after, rest-first, rest-shorter, rest_cases}
-use Rattle.cross_links.proofs.Search.{in_bucket}
+use Rattle.cross_links.specs.Held.{matrix_of}
+use Rattle.cross_links.proofs.Search.{Walked-first, Walked-more, walked_in, walked_shorter, walked_all, bucket_col, in_its_col, col_in_bucket}
 use Rattle.cross_links.proofs.pivot.best_of_cols.Goals as goal
+
+pub first-next-requires : goal.first-next-requires
+first-next-requires c =
+    omega (arith, c.requires.held.cols.bucketed.lists, c.requires.held.matrix.cols.lines_len)
 
 pub bucket-init : goal.bucket-init
 bucket-init c =
-    let bucket = list_at c.args.cols.now.chain c.args.count in
-    let is = c.first-next.ensures.first in
+    let a = matrix_of c.args.table.now in
     record {
-      entry = c.requires.entry;
-      next = subst (λ (o : Option ℕ). IfSome o (λ x. Contains bucket x)) (sym is) (IfSome-first bucket);
-      covers = λ x held. inl (subst (λ (o : Option ℕ). Contains (rest o bucket) x) (sym is) (subst (λ (ys : List ℕ). Contains ys x) (sym (rest-first bucket)) held));
-      kept = λ s d h. h;
+      link = c.requires.link;
+      walked = Walked-first (list_at c.args.table.now.cols.buckets c.args.count) c.first-next.result (λ i. (k : ℕ) → Contains (col a i) k → Covers a c.args.best k) c.first-next.ensures.first;
+      kept = λ k h. h;
     }
+
+pub best_in_col-best-requires-clause-col : goal.best_in_col-best-requires-clause-col
+best_in_col-best-requires-clause-col c =
+    bucket_col c.args.table.now c.requires.held c.args.count c.in-Some.c (walked_in _ _ _ c.bucket.invariant.walked c.in-Some.c c.in-Some.is)
 
 pub bucket-smaller : goal.bucket-smaller
 bucket-smaller c =
-    let bucket = list_at c.args.cols.now.chain c.args.count in
-    let once = c.first-next.ensures.chained.once c.args.count in
-    let held = subst (λ (o : Option ℕ). IfSome o (λ x. Contains bucket x)) c.in-Some.is c.bucket.invariant.next in
-    let next_is = c.next-next.ensures.next c.args.count held in
-    omega (arith, rest-shorter c.in-Some.c bucket once held, ap (λ (o : Option ℕ). length (rest o bucket)) next_is, ap (λ (o : Option ℕ). length (rest o bucket)) c.in-Some.is)
+    let held = walked_in _ _ _ c.bucket.invariant.walked c.in-Some.c c.in-Some.is in
+    walked_shorter _ _ _ c.bucket.invariant.walked c.in-Some.c c.in-Some.is c.next-next.result (c.first-next.ensures.chained.once c.args.count) (c.next-next.ensures.next c.args.count held)
 
 pub bucket-preserved : goal.bucket-preserved
 bucket-preserved c =
-    let rows = c.args.rows.now.lines.items in
-    let cols = c.args.cols.now.lines.items in
-    let bucket = list_at c.args.cols.now.chain c.args.count in
-    let once = c.first-next.ensures.chained.once c.args.count in
-    let held = subst (λ (o : Option ℕ). IfSome o (λ x. Contains bucket x)) c.in-Some.is c.bucket.invariant.next in
-    let next_is = c.next-next.ensures.next c.args.count held in
+    let a = matrix_of c.args.table.now in
+    let held = walked_in _ _ _ c.bucket.invariant.walked c.in-Some.c c.in-Some.is in
     let found = c.best_in_col-best.ensures in
     record {
-      entry = found.entry;
-      next = subst (λ (o : Option ℕ). IfSome o (λ x. Contains bucket x)) (sym next_is) (IfSome-after c.in-Some.c bucket);
-      covers = λ x held_x. ⊎_elim
-          (λ (left : Contains (rest c.bucket.next bucket) x). ⊎_elim
-          (λ (e : x ≡ c.in-Some.c). inr (λ s has. subst (λ (y : ℕ). Covers rows cols c.best_in_col-best.result s y) (sym e) (found.covers s (subst (λ (y : ℕ). HasAt rows s y) e has))))
-          (λ (later : Contains (rest (after c.in-Some.c bucket) bucket) x). inl (subst (λ (o : Option ℕ). Contains (rest o bucket) x) (sym next_is) later))
-          (rest_cases c.in-Some.c x bucket once held (subst (λ (o : Option ℕ). Contains (rest o bucket) x) c.in-Some.is left)))
-          (λ (done : (s : ℕ) → HasAt rows s x → Covers rows cols c.bucket.best s x). inr (λ s has. found.kept s x (done s has)))
-          (c.bucket.invariant.covers x held_x);
-      kept = λ s d h. found.kept s d (c.bucket.invariant.kept s d h);
+      link = found.link;
+      walked = Walked-more _ _ _ c.bucket.invariant.walked c.in-Some.c c.in-Some.is c.next-next.result (λ i. (k : ℕ) → Contains (col a i) k → Covers a c.best_in_col-best.result k) (c.first-next.ensures.chained.once c.args.count) (c.next-next.ensures.next c.args.count held) (λ i all k in_i. found.kept k (all k in_i)) found.covers;
+      kept = λ k h. found.kept k (c.bucket.invariant.kept k h);
     }
 
 pub returns-clause-covers : goal.returns-clause-covers
-returns-clause-covers c = λ s d has is.
-    let m = c.requires.held.matrix in
-    let rows = c.args.rows.now.lines.items in
-    let cols = c.args.cols.now.lines.items in
-    let bucket = list_at c.args.cols.now.chain c.args.count in
-    let inside = in_bucket (length rows) cols c.args.cols.now.active.items c.args.cols.now.chain d s c.args.count m.cols c.requires.held.col_buckets (subst IsSome (m.crossed.same s d) has) is in
-    ⊎_elim
-    (λ (left : Contains (rest c.bucket.next bucket) d). absurd (nothing_contains d (subst (λ (o : Option ℕ). Contains (rest o bucket) d) c.in_default.is left)))
-    (λ (done : (s : ℕ) → HasAt rows s d → Covers rows cols c.bucket.best s d). done s has)
-    (c.bucket.invariant.covers d inside)
+returns-clause-covers c = λ k some is.
+    let t = c.args.table.now in
+    walked_all _ _ _ c.bucket.invariant.walked c.in_default.is (col_of (matrix_of t) k) (col_in_bucket t c.requires.held k some c.args.count is) k (in_its_col t c.requires.held k some)

@@ -1,20 +1,20 @@
 -- What is left of the bucket is followed, and each other line of it was looked at.
-use Rattle.std.proofs.Common.{ℕ, ◌⊎◌, length}
+use Rattle.std.proofs.Common.{ℕ, length}
 use Rattle.std.specs.List.{Contains}
-use Rattle.std.specs.Option.{IfSome}
+use Rattle.chain_links.proofs.Rest.{rest}
 use Rattle.count_chain.specs.Chains.{list_at}
-use Rattle.cross_links.specs.Matrix.{HasAt}
-use Rattle.cross_links.specs.Sides.{IsEntryIfSome, Covers}
-use Rattle.cross_links.proofs.Rest.{rest}
+use Rattle.cross_links.specs.Matrix.{col}
+use Rattle.cross_links.specs.Sides.{IsLinkIfSome, Covers}
+use Rattle.cross_links.specs.Held.{matrix_of}
+use Rattle.cross_links.proofs.Search.{Walked}
 use Rattle.cross_links.proofs.pivot.best_of_cols.Given as goal
 
 abbrev pub invariant-bucket : goal.invariant-bucket
 invariant-bucket l = record {
-  entry : IsEntryIfSome l.rows.lines.items l.best;
-  next : IfSome l.next (λ x. Contains (list_at l.cols.chain l.count) x);
-  covers : (x : ℕ) → Contains (list_at l.cols.chain l.count) x → Contains (rest l.next (list_at l.cols.chain l.count)) x ⊎ ((s : ℕ) → HasAt l.rows.lines.items s x → Covers l.rows.lines.items l.cols.lines.items l.best s x);
-  kept : (s d : ℕ) → Covers l.rows.lines.items l.cols.lines.items l.fn.best s d → Covers l.rows.lines.items l.cols.lines.items l.best s d;
+  link : IsLinkIfSome (matrix_of l.table) l.best;
+  walked : Walked (list_at l.table.cols.buckets l.count) l.next (λ i. (k : ℕ) → Contains (col (matrix_of l.table) i) k → Covers (matrix_of l.table) l.best k);
+  kept : (k : ℕ) → Covers (matrix_of l.table) l.fn.best k → Covers (matrix_of l.table) l.best k;
 }
 
 abbrev pub decreases-bucket : goal.decreases-bucket
-decreases-bucket l = length (rest l.next (list_at l.cols.chain l.count))
+decreases-bucket l = length (rest l.next (list_at l.table.cols.buckets l.count))
