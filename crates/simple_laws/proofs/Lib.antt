@@ -11,5 +11,4 @@ pub mod Endless
 pub mod Least
 pub mod Unfit
 pub mod Feasible
-pub mod Weak
 pub mod Proved

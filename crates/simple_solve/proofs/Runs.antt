@@ -23,7 +23,7 @@ use Rattle.simple_laws.specs.Plain.{Plain}
 use Rattle.simple_laws.specs.Stands.{IsMadeOf, partial_objective, point_of, prices_of}
 use Rattle.simple_laws.proofs.Feasible.{feasible_after, feasible_at_start}
 use Rattle.simple_laws.proofs.Proved.{proves_itself}
-use Rattle.simple_laws.proofs.Weak.{weak}
+use Rattle.lp_laws.proofs.Weak.{weak}
 use Rattle.simple_laws.proofs.Endless.{endless, spent}
 use Rattle.simple_laws.proofs.Made.{stands_at_start}
 use Rattle.simple_laws.proofs.Moved.{moved}

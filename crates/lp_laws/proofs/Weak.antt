@@ -1,39 +1,25 @@
 -- Weak duality: prices that prove a feasible point show that no other feasible point has a smaller objective.
-use Rattle.std.proofs.Common.{◌≡◌, ℕ, zero, suc, ◌<◌, List, length, Some, sym, ◌∙◌, ap, subst, arith}
+use Rattle.std.proofs.Common.{◌≡◌, List, length, Some, ◌∙◌, ap, subst, arith}
 use Rattle.std.proofs.lemmas.Int.{ints}
-use Rattle.rational.specs.Rational.{ℚ, zero_ℚ, ◌+ℚ◌, ◌*ℚ◌, neg_ℚ, ◌≤ℚ◌, ◌<ℚ◌}
-use Rattle.rational.specs.RationalRing.{ring_ℚ, *ℚ_assoc}
-use Rattle.rational.specs.Ring.{◌≐◌, ◌⊙◌≗◌⟹◌, ◌⊕◌, ◌⊖◌, ◌⊗◌, ⊝◌, 𝟘}
+use Rattle.rational.specs.Rational.{ℚ, zero_ℚ, ◌+ℚ◌, ◌*ℚ◌, ◌≤ℚ◌, ◌<ℚ◌}
+use Rattle.rational.specs.RationalRing.{ring_ℚ}
+use Rattle.rational.specs.Ring.{◌≐◌, ◌⊙◌≗◌⟹◌, ◌⊕◌, ◌⊖◌, ◌⊗◌, 𝟘}
 use Rattle.rational.specs.Linear.{linear, ◌≼◌, ◌≺◌, ◌≐◌, ◌⟹◌}
 use Rattle.rational.specs.Sum.{sum_ℚ, at}
 use Rattle.rational.proofs.ProductOrder.{*ℚ_mono, by_lt_ℚ}
-use Rattle.rational.proofs.SumLaws.{sum-add, sum-cong, sum-exchange, sum-scale, sum-scale_right, sum-suc, sum-zero_terms}
+use Rattle.rational.proofs.SumLaws.{sum-add, sum-cong}
 use Rattle.lp_model.specs.Certificate.{Proves, reduced_cost, weighted_column}
-use Rattle.lp_model.specs.Deck.{Deck, Interval, IsFeasible, IsOptimal, NotAbove, NotBelow, Within, activity, activity_interval, column, cost_of, entry, objective, row}
-
--- no greater terms make no greater sum
-sum-mono : (n : ℕ) (f g : ℕ → ℚ) → ((i : ℕ) → i < n → f i ≤ℚ g i) → sum_ℚ n f ≤ℚ sum_ℚ n g
-sum-mono zero f g h =
-    linear 2 (λ x y. x ≐ 𝟘 ⟹ y ≐ 𝟘 ⟹ x ≼ y) (omega (arith, ints)) (sum_ℚ 0 f) (sum_ℚ 0 g) (sum-zero_terms f) (sum-zero_terms g)
-sum-mono (suc n) f g h =
-    linear 6 (λ x y s t a b. x ≐ s ⊕ a ⟹ y ≐ t ⊕ b ⟹ s ≼ t ⟹ a ≼ b ⟹ x ≼ y) (omega (arith, ints))
-    (sum_ℚ (suc n) f) (sum_ℚ (suc n) g) (sum_ℚ n f) (sum_ℚ n g) (f n) (g n)
-    (sum-suc n f) (sum-suc n g) (sum-mono n f g (λ i b. h i (omega arith))) (h n (omega arith))
+use Rattle.lp_model.specs.Deck.{Deck, Interval, IsFeasible, IsOptimal, NotAbove, NotBelow, Within, activity, activity_interval, column, cost_of, objective, row}
+use Rattle.lp_laws.proofs.Sums.{product-turned, sum-mono, priced_part, weighted_part}
 
 -- where a number is at the end of an interval that its factor favours, no other number there has a smaller product
 tight : (c x x' : ℚ) (i : Interval) → (zero_ℚ <ℚ c → i.lower ≡ Some x) → (c <ℚ zero_ℚ → i.upper ≡ Some x) → Within i x' → c *ℚ x ≤ℚ c *ℚ x'
 tight c x x' i low high within =
     by_lt_ℚ zero_ℚ c
     (λ above. *ℚ_mono c x x' (linear 1 (λ c. 𝟘 ≺ c ⟹ 𝟘 ≼ c) (omega (arith, ints)) c above) (subst (λ e. NotBelow e x') (low above) within.0))
-    (λ not_above. by_lt_ℚ c zero_ℚ (λ below. falling (subst (λ e. NotAbove e x') (high below) within.1) not_above)
+    (λ not_above. by_lt_ℚ c zero_ℚ (λ below. product-turned c x' x not_above (subst (λ e. NotAbove e x') (high below) within.1))
     (λ not_below. none (linear 1 (λ c. c ≼ 𝟘 ⟹ 𝟘 ≼ c ⟹ c ≐ 𝟘) (omega (arith, ints)) c not_above not_below)))
   where
-    falling : x' ≤ℚ x → c ≤ℚ zero_ℚ → c *ℚ x ≤ℚ c *ℚ x'
-    falling order sign =
-        linear 4 (λ p p' n n'. n' ≼ n ⟹ n ≐ ⊝ p ⟹ n' ≐ ⊝ p' ⟹ p ≼ p') (omega (arith, ints)) (c *ℚ x) (c *ℚ x') (neg_ℚ c *ℚ x) (neg_ℚ c *ℚ x')
-        (*ℚ_mono (neg_ℚ c) x' x (linear 1 (λ c. c ≼ 𝟘 ⟹ 𝟘 ≼ ⊝ c) (omega (arith, ints)) c sign) order)
-        (ring_ℚ 2 (λ c x. (⊝ c) ⊗ x ≐ ⊝ (c ⊗ x)) tt c x) (ring_ℚ 2 (λ c x. (⊝ c) ⊗ x ≐ ⊝ (c ⊗ x)) tt c x')
-
     none : c ≡ zero_ℚ → c *ℚ x ≤ℚ c *ℚ x'
     none e =
         linear 2 (λ p p'. p ≐ 𝟘 ⟹ p' ≐ 𝟘 ⟹ p ≼ p') (omega (arith, ints)) (c *ℚ x) (c *ℚ x')
@@ -44,24 +30,13 @@ module _ (d : Deck) (y : List ℚ) where
   abbrev reduced_part : List ℚ → ℚ
   reduced_part z = sum_ℚ (length d.columns) (λ j. reduced_cost d y j *ℚ at z j)
 
-  -- the prices of its activities
-  abbrev priced_part : List ℚ → ℚ
-  priced_part z = sum_ℚ (length d.rows) (λ i. at y i *ℚ activity d z i)
-
-  weighted_part : (z : List ℚ) → sum_ℚ (length d.columns) (λ j. weighted_column d y j *ℚ at z j) ≡ priced_part z
-  weighted_part z =
-      sum-cong (length d.columns) (λ j. weighted_column d y j *ℚ at z j) (λ j. sum_ℚ (length d.rows) (λ i. at y i *ℚ (entry d i j *ℚ at z j)))
-      (λ j b. sym (sum-scale_right (length d.rows) (λ i. at y i *ℚ entry d i j) (at z j)) ∙ sum-cong (length d.rows) _ _ (λ i c. *ℚ_assoc (at y i) (entry d i j) (at z j)))
-      ∙ sum-exchange (length d.columns) (length d.rows) (λ j i. at y i *ℚ (entry d i j *ℚ at z j))
-      ∙ sum-cong (length d.rows) _ _ (λ i c. sum-scale (length d.columns) (at y i) (λ j. entry d i j *ℚ at z j))
-
   -- a cost is that of the reduced costs and that of the prices
-  parts : (z : List ℚ) → cost_of d z ≡ reduced_part z +ℚ priced_part z
+  parts : (z : List ℚ) → cost_of d z ≡ reduced_part z +ℚ priced_part d y z
   parts z =
       sum-cong (length d.columns) (λ j. (column d j).cost *ℚ at z j) (λ j. reduced_cost d y j *ℚ at z j +ℚ weighted_column d y j *ℚ at z j)
       (λ j b. ring_ℚ 3 (λ c w x. c ⊗ x ≐ (c ⊖ w) ⊗ x ⊕ w ⊗ x) tt (column d j).cost (weighted_column d y j) (at z j))
       ∙ sum-add (length d.columns) (λ j. reduced_cost d y j *ℚ at z j) (λ j. weighted_column d y j *ℚ at z j)
-      ∙ ap (λ s. reduced_part z +ℚ s) (weighted_part z)
+      ∙ ap (λ s. reduced_part z +ℚ s) (weighted_part d y z)
 
   module _ (x : List ℚ) (proves : Proves d x y) (x' : List ℚ) (feasible : IsFeasible d x') where
     reduced_least : reduced_part x ≤ℚ reduced_part x'
@@ -69,7 +44,7 @@ module _ (d : Deck) (y : List ℚ) where
         sum-mono (length d.columns) (λ j. reduced_cost d y j *ℚ at x j) (λ j. reduced_cost d y j *ℚ at x' j)
         (λ j b. tight (reduced_cost d y j) (at x j) (at x' j) (column d j).bounds (proves.above j b) (proves.below j b) (feasible.columns_within j b))
 
-    priced_least : priced_part x ≤ℚ priced_part x'
+    priced_least : priced_part d y x ≤ℚ priced_part d y x'
     priced_least =
         sum-mono (length d.rows) (λ i. at y i *ℚ activity d x i) (λ i. at y i *ℚ activity d x' i)
         (λ i b. tight (at y i) (activity d x i) (activity d x' i) (activity_interval (row d i)) (proves.price_above i b) (proves.price_below i b) (feasible.rows_within i b))
@@ -77,9 +52,9 @@ module _ (d : Deck) (y : List ℚ) where
     objective_least : objective d x ≤ℚ objective d x'
     objective_least =
         linear 7 (λ k c c' r r' p p'. c ≐ r ⊕ p ⟹ c' ≐ r' ⊕ p' ⟹ r ≼ r' ⟹ p ≼ p' ⟹ k ⊕ c ≼ k ⊕ c') (omega (arith, ints))
-        d.constant (cost_of d x) (cost_of d x') (reduced_part x) (reduced_part x') (priced_part x) (priced_part x')
+        d.constant (cost_of d x) (cost_of d x') (reduced_part x) (reduced_part x') (priced_part d y x) (priced_part d y x')
         (parts x) (parts x') reduced_least priced_least
 
--- a point that has its proof is optimal, in any deck
+-- weak duality: a feasible point with prices that prove it is optimal, in any deck
 pub weak : (d : Deck) (x y : List ℚ) → Proves d x y → IsOptimal d x
 weak d x y proves = record { feasible = proves.feasible; least = λ x' feasible. objective_least d y x proves x' feasible }

@@ -1,0 +1,4 @@
+pub mod Sums
+pub mod Weak
+pub mod Gap
+pub mod Endless
