@@ -1,8 +1,9 @@
 #!/usr/bin/env python3
-"""Makes a deck of less-than rows in the plain form, from a seed: decks.py KIND ROWS COLUMNS SEED
+"""Makes a deck from a seed: decks.py KIND ROWS COLUMNS SEED
 
-KIND is `dense` (every entry from 1 to 9), `sparse` (four entries a column) or `chain` (a column a row). Costs are below 0, right sides
-from 1 up, and each column has an entry above 0, so that the deck has an optimum.
+KIND is `dense` (every entry from 1 to 9), `sparse` (four entries a column) or `chain` (a column a row): decks of less-than rows, with costs below 0,
+right sides from 1 up, and an entry above 0 in each column, so that the deck has an optimum. Or it is `whole`: rows of all kinds, a cost and nine
+entries a column with decimals, two pairs a card, ranges and bounds of all kinds.
 """
 import random
 import sys
@@ -21,9 +22,45 @@ def card(first, second, value):
     return f"    {first:<10}{second:<10}{value}"
 
 
+def paired(name, pairs):
+    cards = []
+    for first in range(0, len(pairs), 2):
+        line = f"    {name:<10}"
+        line += "   ".join(f"{row:<10}{value:>12}" for row, value in pairs[first : first + 2])
+        cards.append(line)
+    return cards
+
+
+def decimal(chance):
+    return f"{chance.randint(-99999, 99999) / 1000:.3f}"
+
+
+def whole_deck(rows, columns, chance):
+    lines = ["NAME          WHOLE", "ROWS", " N  COST"]
+    lines += [f" {'LGE'[row % 3]}  R{row + 1}" for row in range(rows)]
+    lines.append("COLUMNS")
+    for index in range(columns):
+        chosen = sorted(chance.sample(range(rows), min(9, rows)))
+        pairs = [("COST", decimal(chance))] + [(f"R{row + 1}", decimal(chance)) for row in chosen]
+        lines += paired(f"X{index + 1}", pairs)
+    lines.append("RHS")
+    lines += paired("S", [(f"R{row + 1}", decimal(chance)) for row in range(rows)])
+    lines.append("RANGES")
+    lines += paired("S", [(f"R{row + 1}", f"{row % 50 + 1}.5") for row in range(0, rows, 2)])
+    lines.append("BOUNDS")
+    for index in range(columns):
+        kind = ("UP", "LO", "FX", "FR", "MI", "PL")[index % 6]
+        number = f"{index % 70 + 1}.25" if kind in ("UP", "LO", "FX") else ""
+        lines.append(f" {kind} {'S':<10}{f'X{index + 1}':<10}{number:>12}".rstrip())
+    lines.append("ENDATA")
+    print("\n".join(lines))
+
+
 def main():
     kind, rows, columns, seed = sys.argv[1], int(sys.argv[2]), int(sys.argv[3]), int(sys.argv[4])
     chance = random.Random(seed)
+    if kind == "whole":
+        return whole_deck(rows, columns, chance)
     lines = ["NAME          BENCH", "ROWS", " N  COST"]
     lines += [f" L  R{row + 1}" for row in range(rows)]
     lines.append("COLUMNS")

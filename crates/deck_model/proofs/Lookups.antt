@@ -1,11 +1,11 @@
 -- A look-up by a name, in the map and in the list of rows or of columns that it stands for.
-use Rattle.std.proofs.Common.{◌≡◌, ℕ, zero, suc, ◌+◌, ◌<◌, false, not, ◌&&◌, cond, List, [], ◌∷◌, ◌++◌, length, map, position, get_or, Some, None, nat_eq, nat_lt, refl, sym, ap, ap₂, ◌∙◌, arith, lt-ltb, is_some}
+use Rattle.std.proofs.Common.{◌≡◌, ℕ, zero, suc, ◌+◌, ◌<◌, Bool, true, false, not, ◌&&◌, cond, List, [], ◌∷◌, ◌++◌, length, map, position, get_or, Some, None, nat_eq, nat_lt, refl, sym, ap, ap₂, ◌∙◌, arith, lt-ltb, is_some}
 use Rattle.std.specs.List.{All, IsDistinct, position_or_len}
 use Rattle.std.specs.Map.{keys_of}
 use Rattle.std.specs.Cmp.Lexicographic.{pointwise}
 use Rattle.std.proofs.lemmas.Cmp.{nat_list_eq_equiv}
 use Rattle.std.proofs.lemmas.Bool.Decides.{nat_tests}
-use Rattle.std.proofs.lemmas.List.Elements.{All-get_or}
+use Rattle.std.proofs.lemmas.List.Elements.{All-cons, All-get_or, All-nil}
 use Rattle.std.proofs.lemmas.List.Sums.{position_or_len_is}
 use Rattle.std.proofs.lemmas.Map.Keys.{apart_from_distinct}
 use Rattle.deck_model.proofs.Lists.{none_from_is_some}
@@ -20,7 +20,7 @@ same_bytes-pointwise [] (y ∷ ys) = refl
 same_bytes-pointwise (x ∷ xs) [] = refl
 same_bytes-pointwise (x ∷ xs) (y ∷ ys) = ap (λ b. nat_eq x y && b) (same_bytes-pointwise xs ys)
 
-same_bytes-flip : (xs ys : List ℕ) → same_bytes xs ys ≡ pointwise nat_eq ys xs
+pub same_bytes-flip : (xs ys : List ℕ) → same_bytes xs ys ≡ pointwise nat_eq ys xs
 same_bytes-flip xs ys = same_bytes-pointwise xs ys ∙ nat_list_eq_equiv.symm xs ys
 
 nat_lt-irrefl : (n : ℕ) → nat_lt n n ≡ false
@@ -41,6 +41,29 @@ position-none key ks apart =
     let past : position_or_len (pointwise nat_eq key) ks ≡ length ks = position_or_len_is (pointwise nat_eq key) ks (length ks) [] (omega arith)
     (λ k below. All-get_or (λ name. pointwise nat_eq key name ≡ false) ks k [] below apart) (λ within. absurd (omega arith)) in
     ap (λ n. cond (nat_lt n (length ks)) (Some n) None) past ∙ ap (λ b. cond b (Some (length ks)) None) (nat_lt-irrefl (length ks))
+
+pub nat_lt-first : (n : ℕ) → nat_lt 0 (suc n) ≡ true
+nat_lt-first n = grind (arith, nat_tests)
+
+pub nat_lt-next : (i n : ℕ) → nat_lt (1 + i) (suc n) ≡ nat_lt i n
+nat_lt-next i n = grind (arith, nat_tests)
+
+first_or_later : (b : Bool) (i n : ℕ) → cond (nat_lt (cond (not b) (1 + i) 0) (suc n)) (Some (cond (not b) (1 + i) 0)) None ≡ None → (b ≡ false) × (cond (nat_lt i n) (Some i) None ≡ None)
+first_or_later true i n none =
+    let found : Some 0 ≡ None = sym (ap (λ c. cond c (Some 0) None) (nat_lt-first n)) ∙ none in
+    absurd (cc found)
+first_or_later false i n none = (refl, by_test (nat_lt i n) (sym (ap (λ c. cond c (Some (1 + i)) None) (nat_lt-next i n)) ∙ none))
+  where
+    by_test : (c : Bool) → cond c (Some (1 + i)) None ≡ None → cond c (Some i) None ≡ None
+    by_test true none = absurd (cc none)
+    by_test false none = refl
+
+-- a key that is not found equals none
+pub unfound : (key : List ℕ) (ks : List (List ℕ)) → position (pointwise nat_eq key) ks ≡ None → All (λ k. pointwise nat_eq key k ≡ false) ks
+unfound key [] none = All-nil (λ k. pointwise nat_eq key k ≡ false)
+unfound key (k ∷ ks) none =
+    let parts = first_or_later (pointwise nat_eq key k) (position_or_len (pointwise nat_eq key) ks) (length ks) none in
+    All-cons (λ x. pointwise nat_eq key x ≡ false) k ks parts.0 (unfound key ks parts.1)
 
 module _ {X Y : Type 0} (f : List ℕ × X → Y) (name_of : Y → List ℕ) (named : (e : List ℕ × X) → name_of (f e) ≡ e.0) where
   module _ (name : List ℕ) where

@@ -1,5 +1,5 @@
 //! Decks: their calls, and the rows and columns that they keep.
-ghost use Rattle.std.specs.Prelude.{◌≡◌, ◌≢◌, ◌<◌, ◌≤◌, ◌↔◌, false, IsTrue, IfOk, IsErrOf, OnOk, OnErr, if◌then◌else◌, length};
+ghost use Rattle.std.specs.Prelude.{◌≡◌, ◌≢◌, ◌<◌, ◌≤◌, ◌↔◌, false, IsTrue, IfOk, IsErrOf, OnOk, OnErr, None, if◌then◌else◌, length};
 ghost use Rattle.lp_model.specs.Deck.{row as row_at, column as column_at, IsDeck, IsUncrossed};
 ghost use Rattle.lp_model.specs.Edit.{new_deck, find_row, find_column, is_row_name, is_column_name, with_row, with_column, with_entry, with_cost, with_bounds, with_right, with_range, with_constant, has_entry, entry_count};
 ghost use Rattle.rational.specs.Rational.{zero_ℚ, eq_ℚ};
@@ -97,6 +97,21 @@ impl Deck {
         ensures { result.now ≡ self.now.objective }
     {
         &self.objective
+    }
+
+    /// Gives the deck another name.
+    pub fn set_name(&mut self, name: Name)
+        ensures { self.new ≡ record self.old { name = name } }
+    {
+        self.name = name;
+    }
+
+    /// Gives the objective another name, which no row has.
+    pub fn set_objective(&mut self, name: Name)
+        requires { find_row self.old name ≡ None }
+        ensures { self.new ≡ record self.old { objective = name } }
+    {
+        self.objective = name;
     }
 
     /// How many rows there are, the objective not counted.

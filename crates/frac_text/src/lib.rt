@@ -1,4 +1,4 @@
-//! The text of a fraction.
+//! Fractions as texts, and texts as fractions.
 //!
 //! A fraction is written as its numerator in lowest terms, with a minus sign before it where it is below 0, and after a
 //! stroke its denominator, where that is not 1: `7`, `-3/2`, `0`. No number begins with a zero, but 0 itself.
@@ -6,9 +6,10 @@
 //! # Contract
 //!
 //! [`text`] answers this text, which `lp_text` defines as `fraction_text`, and [`append`] puts it at the end of a list of
-//! bytes. Both refuse only for want of memory; `append` then leaves the list as it was.
+//! bytes. Both refuse only for want of memory; `append` then leaves the list as it was. [`field`] is that of `number_fields`: the
+//! fraction that a number field of a card spells, or its fault.
 //!
-//! The crate stands on `exact_frac`, on `lp_text` for the definition of the text, on `itoa`, which prints integers of up
+//! The crate stands on `exact_frac`, on `number_fields`, on `lp_text` for the definition of the text, on `itoa`, which prints integers of up
 //! to 128 bits, and on `no_memory` for the refusal.
 #![tactic(auto)]
 
@@ -18,6 +19,7 @@ ghost use Rattle.lp_text.specs.Fraction.{fraction_text};
 use exact_frac::Frac;
 use itoa::Buffer;
 use no_memory::Memory;
+pub use number_fields::{FieldFault, field};
 use std::alloc::Global;
 
 /// The text of a fraction.

@@ -26,7 +26,7 @@
 //!   [`StdinEnds`], [`StdoutEnds`] and [`StderrEnds`] are those over the process's streams, of whose bytes no clause
 //!   claims anything. `main` makes them of the streams' handles, as `StdinEnds::new(rt.stdin())`.
 //!
-//! The crate stands on `std`, and on `thiserror` for the texts of its refusals.
+//! The crate stands on `std`, on `no_memory` for the refusal for memory, and on `thiserror` for the text of [`Failed`].
 #![tactic(auto)]
 
 mod ends;
@@ -36,5 +36,6 @@ mod standard_ends;
 
 pub use ends::{Sink, Source, write_all};
 pub use memory_ends::{MemSink, MemSource};
-pub use refusals::{Failed, Memory};
+pub use no_memory::Memory;
+pub use refusals::Failed;
 pub use standard_ends::{ReaderEnds, StderrEnds, StdinEnds, StdoutEnds, WriterEnds};

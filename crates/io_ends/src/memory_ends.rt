@@ -3,7 +3,8 @@ ghost use Rattle.io_ends.specs.Bytes.{Gives, Appends};
 ghost use Rattle.io_ends.specs.Count.{one_more, Rose};
 
 use crate::ends::{Sink, Source};
-use crate::refusals::{Failed, Memory};
+use crate::refusals::Failed;
+use no_memory::Memory;
 use std::alloc::Global;
 use std::marker::Model;
 

@@ -1,7 +1,6 @@
 ghost use Rattle.std.specs.Prelude.{◌≡◌, ◌≤◌};
 ghost use Rattle.io_ends.specs.Count.{one_more};
 
-use std::alloc::AllocError;
 use thiserror::Error;
 
 /// A read or a write failed. It carries nothing: how often an end has failed is its count of faults.
@@ -17,18 +16,5 @@ impl Failed {
     {
         *faults = faults.saturating_add(1);
         Failed
-    }
-}
-
-/// Memory ran out.
-#[derive(Clone, Copy, Debug, PartialEq, Eq, Error)]
-#[error("out of memory")]
-pub struct Memory;
-
-impl From<AllocError> for Memory {
-    ghost from_gives = { λ _ memory. memory ≡ record {} };
-
-    fn from(_error: AllocError) -> Memory {
-        Memory
     }
 }

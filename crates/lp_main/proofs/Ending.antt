@@ -1,6 +1,6 @@
 -- From what a solve answers, and the line that refuses, to how a call of the program ends.
 use Rattle.std.proofs.Common.{◌≡◌, ℕ, ◌⊎◌, List, Option, Some, None, Err, refl, sym, ◌∙◌, ap, subst, inl, inr}
-use Rattle.std.specs.Prelude.{IfSome, IsErrOf}
+use Rattle.std.specs.Prelude.{IfSome, IsErrOf, MatchOption}
 use Rattle.lp_model.specs.Deck.{Deck}
 use Rattle.lp_model.specs.Instance.{instance_of}
 use Rattle.lp_model.specs.Listing.{DeckFits, DeckMeetsUnfit}
@@ -8,8 +8,14 @@ use Rattle.lp_model.specs.Run.{IsSpent}
 use Rattle.lp_model.specs.Simple.{IsSimple}
 use Rattle.simple_laws.specs.Stands.{IsEndless}
 use Rattle.simple_laws.proofs.Complete.{not_endless, not_spent, not_unfit}
-use Rattle.lp_text.proofs.PlainSimple.{plain_deck_is_simple}
-use Rattle.lp_text.specs.PlainDeck.{Reading, cut, departs, read_plain, reads}
+use Rattle.lp_text.specs.Cards.{columns, not_ascii}
+use Rattle.lp_text.specs.Refusals.{later_line}
+use Rattle.mps_model.specs.DeckOf.{DeckFault as Fault, HasFault, Reading, crossed_bounds, has_fault, in_line, is_deck, no_end, no_objective, reading_of}
+use Rattle.mps_model.specs.DeckSoFar.{bound, in_card, integer, limit, number, repeated, row_type, scattered, section, unknown_column, unknown_row}
+use Rattle.mps_reader.specs.declared.faults.DeckFault.TheVariants as fault
+use Rattle.mps_reader.specs.declared.faults.DeckFault.{DeckFault}
+use Rattle.mps_reader.specs.Refusals.{counted, text_fault}
+use Rattle.lp_main.specs.FaultLines.{fault_line, reader_line}
 use Rattle.lp_text.specs.Words.{IsServed}
 use Rattle.lp_main.specs.declared.refusal.Refusal.{Refusal}
 use Rattle.lp_main.specs.declared.refusal.Refusal.TheVariants as refusal
@@ -18,7 +24,7 @@ use Rattle.lp_main.specs.declared.status.Status.TheVariants as status
 use Rattle.lp_main.specs.Ends.{End, LeavesBy, SaysBy, status_of_end}
 use Rattle.lp_main.specs.Refusal.{line_of, status_of}
 use Rattle.lp_main.specs.Says.{Says}
-use Rattle.lp_main.specs.Serves.{Answers, HasOptimum, IsLater, IsOverBudget, IsOverflow, Reports, budget}
+use Rattle.lp_main.specs.Serves.{Answers, AnswersDeck, HasOptimum, IsFirstFault, IsLater, IsOverBudget, IsOverflow, IsUnservedDeck, Reports, budget}
 use Rattle.lp_main.specs.Solves.{IsCause}
 
 -- what was said is the refusal, or want of memory
@@ -34,6 +40,7 @@ ended_unserved w words text old result e e' n n' unserved (said, inr is, status,
 
 -- want of memory may take the place of each refusal of a solve
 memory_in_place : (w : ℕ) (text left old new : Option (List ℕ)) (r : Refusal) → IsCause w text left old new r → IsCause w text left old new refusal.Memory
+memory_in_place w text left old new (refusal.Deck fault) cause = inl cause.1
 memory_in_place w text left old new (refusal.Later k) cause = inl cause.1
 memory_in_place w text left old new refusal.Read cause = inl cause.1
 memory_in_place w text left old new refusal.Write cause = inr cause
@@ -44,6 +51,7 @@ memory_in_place w text left old new (refusal.Budget k) cause = inl cause.1
 
 refused_by : (w : ℕ) (words : List (List ℕ)) (text left old new : Option (List ℕ)) (r : Refusal) (result : Status) (e e' : Option (List ℕ)) (n n' : ℕ) → IsServed words → IsCause w text left old new r → result ≡ status_of r → Says e e' n n' (line_of r)
     → Ended w words text left old new result e e' n n'
+refused_by w words text left old new (refusal.Deck fault) result e e' n n' served cause status says = (Err (refusal.Deck fault), status, (served, cause), says)
 refused_by w words text left old new (refusal.Later k) result e e' n n' served cause status says = (Err (refusal.Later k), status, (served, cause), says)
 refused_by w words text left old new refusal.Read result e e' n n' served cause status says = (Err refusal.Read, status, (served, cause), says)
 refused_by w words text left old new refusal.Write result e e' n n' served cause status says = (Err refusal.Write, status, (served, cause), says)
@@ -61,88 +69,119 @@ ended_refused w words text left old new r result e e' n n' served cause (said, i
 
 -- ── the status of each text ──
 
-same_deck : (d d' : Deck) (k line : ℕ) → reads d k ≡ reads d' line → d ≡ d'
+same_deck : (d d' : Deck) (k line : ℕ) → is_deck d k ≡ is_deck d' line → d ≡ d'
 same_deck d d' k line e = cc
 
--- what every text has in common with the deck that it reads as
-abbrev pub IsSimpleReading : Reading → Type 0
-IsSimpleReading reading = (d : Deck) (line : ℕ) → reading ≡ reads d line → IsSimple d
+same_line : (d d' : Deck) (k line : ℕ) → is_deck d k ≡ is_deck d' line → k ≡ line
+same_line d d' k line e = cc
 
-simple_reading : (t : List ℕ) → IsSimpleReading (read_plain t)
-simple_reading t d line read = plain_deck_is_simple t d line read
+same_fault : (f f' : Fault) → has_fault f ≡ has_fault f' → f ≡ f'
+same_fault f f' e = cc
 
 -- of three ends of a deck's run no two come together
 apart : (d : Deck) → IsSimple d → IsEndless d → HasOptimum d → ⊥
 apart d simple endless (log, x, y, v, outcome, within) = not_endless d simple log x y v outcome endless
 
+over : (d : Deck) → IsSimple d → IsSpent (instance_of d) budget → HasOptimum d → ⊥
+over d simple spent (log, x, y, v, outcome, within) = not_spent d simple log x y v outcome budget within spent
+
 meets_no_unfit : (w : ℕ) (d : Deck) → DeckMeetsUnfit w budget d → DeckFits w d → ⊥
 meets_no_unfit w d (inl start) fits = start fits.0
 meets_no_unfit w d (inr run) fits = not_unfit (instance_of d) w budget fits.1 run
 
-answers_done : (w : ℕ) (reading : Reading) → IsSimpleReading reading → (d : Deck) (line : ℕ) → reading ≡ reads d line → HasOptimum d → Answers w reading status.Done
-answers_done w (departs k) simple d line e has = absurd (cc e)
-answers_done w (cut k) simple d line e has = absurd (cc e)
-answers_done w (reads d' k) simple d line e has = (λ endless. absurd (apart d' (simple d' k refl) endless (subst HasOptimum (sym (same_deck d' d k line e)) has)), λ optimum fits. inl refl)
+-- the line of what the reader answers is that of the fault of a text that it is
+named : (f : DeckFault) (P : Fault → Type 0) → MatchOption (text_fault f) ⊥ P → (first : Fault) × P first × (reader_line f ≡ fault_line first)
+named fault.Read P h = absurd h
+named fault.Memory P h = absurd h
+named (fault.Columns n c) P h = (in_line n (in_card (columns c)), h, refl)
+named (fault.NotAscii n) P h = (in_line n (in_card not_ascii), h, refl)
+named (fault.Section n) P h = (in_line n section, h, refl)
+named (fault.RowType n) P h = (in_line n row_type, h, refl)
+named (fault.UnknownRow n) P h = (in_line n unknown_row, h, refl)
+named (fault.UnknownColumn n) P h = (in_line n unknown_column, h, refl)
+named (fault.Repeated n) P h = (in_line n repeated, h, refl)
+named (fault.Scattered n) P h = (in_line n scattered, h, refl)
+named (fault.Number n) P h = (in_line n number, h, refl)
+named (fault.Bound n) P h = (in_line n bound, h, refl)
+named (fault.Integer n) P h = (in_line n integer, h, refl)
+named fault.NoObjective P h = (no_objective, h, refl)
+named (fault.NoEnd n) P h = (no_end n, h, refl)
+named (fault.Limit which n) P h = (in_line n (limit (counted which)), h, refl)
+named (fault.CrossedBounds name) P h = (crossed_bounds name, h, refl)
 
-pub answered_done : (w : ℕ) (text old new : Option (List ℕ)) → IfSome text (Reports old new) → IfSome text (λ t. Answers w (read_plain t) status.Done)
-answered_done w None old new h = tt
-answered_done w (Some t) old new (d, line, log, x, y, v, is, appended) = answers_done w (read_plain t) (simple_reading t) d line is.read (log, x, y, v, is.optimum.outcome, is.optimum.within)
+-- what standard error has of a line is Said
+module _ (w : ℕ) (SaidOf : List ℕ → Type 0) where
+  -- the text may answer this status
+  abbrev pub May : List ℕ → Status → Type 0
+  May t s = Answers w (reading_of t) s SaidOf
 
-answers_memory : (w : ℕ) (reading : Reading) → Answers w reading status.Memory
-answers_memory w (departs k) = inr refl
-answers_memory w (cut k) = inr refl
-answers_memory w (reads d k) = (λ endless. inl (inr refl), λ optimum fits. inr refl)
+  -- what the deck of a text may answer, the text may
+  for_reading : (reading : Reading) (d : Deck) (line : ℕ) (s : Status) → reading ≡ is_deck d line → AnswersDeck w d line s SaidOf → Answers w reading s SaidOf
+  for_reading (has_fault fault) d line s e h = absurd (cc e)
+  for_reading (is_deck d' k) d line s e h =
+      subst (λ d. AnswersDeck w d k s SaidOf) (sym (same_deck d' d k line e)) (subst (λ k. AnswersDeck w d k s SaidOf) (sym (same_line d' d k line e)) h)
 
-answers_later : (w : ℕ) (reading : Reading) → IsSimpleReading reading → (line : ℕ) → ((reading ≡ departs line) ⊎ (reading ≡ cut line)) ⊎ ((d : Deck) × (reading ≡ reads d line) × IsEndless d) → Answers w reading status.BadInput
-answers_later w (departs k) simple line h = inl refl
-answers_later w (cut k) simple line h = inl refl
-answers_later w (reads d k) simple line (inl (inl e)) = absurd (cc e)
-answers_later w (reads d k) simple line (inl (inr e)) = absurd (cc e)
-answers_later w (reads d k) simple line (inr (d', e, endless)) =
-    (λ _. inl (inl refl), λ optimum fits. absurd (apart d (simple d k refl) (subst IsEndless (same_deck d' d line k (sym e)) endless) optimum))
+  deck_done : (d : Deck) (line : ℕ) → IsSimple d → HasOptimum d → AnswersDeck w d line status.Done SaidOf
+  deck_done d line simple has = (λ other. absurd (other simple), λ _ endless. absurd (apart d simple endless has), λ _ optimum fits. inl refl)
 
-answered_later : (w : ℕ) (text : Option (List ℕ)) (k : ℕ) → IfSome text (λ t. IsLater t k) → IfSome text (λ t. Answers w (read_plain t) status.BadInput)
-answered_later w None k h = tt
-answered_later w (Some t) k h = answers_later w (read_plain t) (simple_reading t) k h
+  pub answered_done : (text old new : Option (List ℕ)) → IfSome text (Reports old new) → IfSome text (λ t. May t status.Done)
+  answered_done None old new h = tt
+  answered_done (Some t) old new (d, line, log, x, y, v, is, appended) =
+      for_reading (reading_of t) d line status.Done is.read.read (deck_done d line is.read.simple (log, x, y, v, is.optimum.outcome, is.optimum.within))
 
-answers_overflow : (w : ℕ) (reading : Reading) (d : Deck) (line : ℕ) → reading ≡ reads d line → DeckMeetsUnfit w budget d → Answers w reading status.Overflow
-answers_overflow w (departs k) d line e meets = absurd (cc e)
-answers_overflow w (cut k) d line e meets = absurd (cc e)
-answers_overflow w (reads d' k) d line e meets = (λ _. inr (inl refl), λ optimum fits. absurd (meets_no_unfit w d meets (subst (DeckFits w) (same_deck d' d k line e) fits)))
+  answers_memory : (reading : Reading) → Answers w reading status.Memory SaidOf
+  answers_memory (has_fault fault) = inr refl
+  answers_memory (is_deck d k) = (λ other. inr refl, λ simple endless. inl (inr refl), λ simple optimum fits. inr refl)
 
-answered_overflow : (w : ℕ) (text : Option (List ℕ)) → IfSome text (IsOverflow w) → IfSome text (λ t. Answers w (read_plain t) status.Overflow)
-answered_overflow w None h = tt
-answered_overflow w (Some t) (d, line, read, meets) = answers_overflow w (read_plain t) d line read meets
+  answers_fault : (reading : Reading) (fault : Fault) → reading ≡ has_fault fault → SaidOf (fault_line fault) → Answers w reading status.BadInput SaidOf
+  answers_fault (has_fault fault') fault e says = inl (refl, subst (λ f. SaidOf (fault_line f)) (sym (same_fault fault' fault e)) says)
+  answers_fault (is_deck d k) fault e says = absurd (cc e)
 
-answers_budget : (w : ℕ) (reading : Reading) → IsSimpleReading reading → (d : Deck) (line : ℕ) → reading ≡ reads d line → IsSpent (instance_of d) budget → Answers w reading status.Budget
-answers_budget w (departs k) simple d line e spent = absurd (cc e)
-answers_budget w (cut k) simple d line e spent = absurd (cc e)
-answers_budget w (reads d' k) simple d line e spent = (λ _. inr (inr refl), λ optimum fits. absurd (over d' (simple d' k refl) (subst (λ d. IsSpent (instance_of d) budget) (sym (same_deck d' d k line e)) spent) optimum))
-  where
-    over : (d : Deck) → IsSimple d → IsSpent (instance_of d) budget → HasOptimum d → ⊥
-    over d simple spent (log, x, y, v, outcome, within) = not_spent d simple log x y v outcome budget within spent
+  answered_fault : (text : Option (List ℕ)) (fault : DeckFault) → IfSome text (λ t. IsFirstFault t fault) → SaidOf (reader_line fault) → IfSome text (λ t. May t status.BadInput)
+  answered_fault None fault h says = tt
+  answered_fault (Some t) fault h says = let k = named fault (HasFault t) h in answers_fault (reading_of t) k.0 k.1 (subst SaidOf k.2 says)
 
-answered_budget : (w : ℕ) (text : Option (List ℕ)) (n : ℕ) → IfSome text (IsOverBudget n) → IfSome text (λ t. Answers w (read_plain t) status.Budget)
-answered_budget w None n h = tt
-answered_budget w (Some t) n (same, d, line, read, spent) = answers_budget w (read_plain t) (simple_reading t) d line read spent
+  deck_later : (d : Deck) (line : ℕ) → IsUnservedDeck d → SaidOf (later_line line) → AnswersDeck w d line status.BadInput SaidOf
+  deck_later d line (inl other) says = (λ _. inl (refl, says), λ simple endless. inl (inl (refl, says)), λ simple optimum fits. absurd (other simple))
+  deck_later d line (inr (simple, endless)) says = (λ _. inl (refl, says), λ _ _. inl (inl (refl, says)), λ _ optimum fits. absurd (apart d simple endless optimum))
 
-answered_memory : (w : ℕ) (text : Option (List ℕ)) → IfSome text (λ t. Answers w (read_plain t) status.Memory)
-answered_memory w None = tt
-answered_memory w (Some t) = answers_memory w (read_plain t)
+  answered_later : (text : Option (List ℕ)) (k : ℕ) → IfSome text (λ t. IsLater t k) → SaidOf (later_line k) → IfSome text (λ t. May t status.BadInput)
+  answered_later None k h says = tt
+  answered_later (Some t) k (d, read, later) says = for_reading (reading_of t) d k status.BadInput read (deck_later d k later says)
 
-by_refusal : (w : ℕ) (text left old new : Option (List ℕ)) (r : Refusal) (A B : Type 0) → IsCause w text left old new r → (r ≡ refusal.Read → A) → (r ≡ refusal.Write → B) → (¬ A) → (¬ B) → IfSome text (λ t. Answers w (read_plain t) (status_of r))
-by_refusal w text left old new (refusal.Later k) A B cause read write no_read no_write = answered_later w text k cause.0
-by_refusal w text left old new refusal.Read A B cause read write no_read no_write = absurd (no_read (read refl))
-by_refusal w text left old new refusal.Write A B cause read write no_read no_write = absurd (no_write (write refl))
-by_refusal w text left old new refusal.Memory A B cause read write no_read no_write = answered_memory w text
-by_refusal w text left old new refusal.Usage A B cause read write no_read no_write = absurd cause
-by_refusal w text left old new refusal.Overflow A B cause read write no_read no_write = answered_overflow w text cause.0
-by_refusal w text left old new (refusal.Budget k) A B cause read write no_read no_write = answered_budget w text k cause.0
+  deck_overflow : (d : Deck) (line : ℕ) → IsSimple d → DeckMeetsUnfit w budget d → AnswersDeck w d line status.Overflow SaidOf
+  deck_overflow d line simple meets = (λ other. absurd (other simple), λ _ endless. inr (inl refl), λ _ optimum fits. absurd (meets_no_unfit w d meets fits))
+
+  answered_overflow : (text : Option (List ℕ)) → IfSome text (IsOverflow w) → IfSome text (λ t. May t status.Overflow)
+  answered_overflow None h = tt
+  answered_overflow (Some t) (d, line, read, meets) = for_reading (reading_of t) d line status.Overflow read.read (deck_overflow d line read.simple meets)
+
+  deck_budget : (d : Deck) (line : ℕ) → IsSimple d → IsSpent (instance_of d) budget → AnswersDeck w d line status.Budget SaidOf
+  deck_budget d line simple spent = (λ other. absurd (other simple), λ _ endless. inr (inr refl), λ _ optimum fits. absurd (over d simple spent optimum))
+
+  answered_budget : (text : Option (List ℕ)) (n : ℕ) → IfSome text (IsOverBudget n) → IfSome text (λ t. May t status.Budget)
+  answered_budget None n h = tt
+  answered_budget (Some t) n (same, d, line, read, spent) = for_reading (reading_of t) d line status.Budget read.read (deck_budget d line read.simple spent)
+
+  answered_memory : (text : Option (List ℕ)) → IfSome text (λ t. May t status.Memory)
+  answered_memory None = tt
+  answered_memory (Some t) = answers_memory (reading_of t)
+
+  by_refusal : (text left old new : Option (List ℕ)) (r : Refusal) (A B : Type 0) → IsCause w text left old new r → SaidOf (line_of r)
+      → (r ≡ refusal.Read → A) → (r ≡ refusal.Write → B) → (¬ A) → (¬ B) → IfSome text (λ t. May t (status_of r))
+  by_refusal text left old new (refusal.Deck fault) A B cause says read write no_read no_write = answered_fault text fault cause.0 says
+  by_refusal text left old new (refusal.Later k) A B cause says read write no_read no_write = answered_later text k cause.0 says
+  by_refusal text left old new refusal.Read A B cause says read write no_read no_write = absurd (no_read (read refl))
+  by_refusal text left old new refusal.Write A B cause says read write no_read no_write = absurd (no_write (write refl))
+  by_refusal text left old new refusal.Memory A B cause says read write no_read no_write = answered_memory text
+  by_refusal text left old new refusal.Usage A B cause says read write no_read no_write = absurd cause
+  by_refusal text left old new refusal.Overflow A B cause says read write no_read no_write = answered_overflow text cause.0
+  by_refusal text left old new (refusal.Budget k) A B cause says read write no_read no_write = answered_budget text k cause.0
 
 pub answered_refused : (w : ℕ) (text left old new : Option (List ℕ)) (r : Refusal) (result : Status) (e e' : Option (List ℕ)) (n n' : ℕ) (A B : Type 0) → IsCause w text left old new r
-    → (IsErrOf {T = Unit {0}} (Err r) refusal.Read → A) → (IsErrOf {T = Unit {0}} (Err r) refusal.Write → B) → Said r result e e' n n' → (¬ A) → (¬ B) → IfSome text (λ t. Answers w (read_plain t) result)
+    → (IsErrOf {T = Unit {0}} (Err r) refusal.Read → A) → (IsErrOf {T = Unit {0}} (Err r) refusal.Write → B) → Said r result e e' n n' → (¬ A) → (¬ B) → IfSome text (λ t. Answers w (reading_of t) result (Says e e' n n'))
 answered_refused w text left old new r result e e' n n' A B cause read write (said, inl is, status, says) no_read no_write =
-    subst (λ s. IfSome text (λ t. Answers w (read_plain t) s)) (sym (status ∙ ap status_of is))
-    (by_refusal w text left old new r A B cause (λ same. read (ap Err same)) (λ same. write (ap Err same)) no_read no_write)
+    subst (λ s. IfSome text (λ t. Answers w (reading_of t) s (Says e e' n n'))) (sym (status ∙ ap status_of is))
+    (by_refusal w (Says e e' n n') text left old new r A B cause (subst (λ r. Says e e' n n' (line_of r)) is says) (λ same. read (ap Err same)) (λ same. write (ap Err same)) no_read no_write)
 answered_refused w text left old new r result e e' n n' A B cause read write (said, inr is, status, says) no_read no_write =
-    subst (λ s. IfSome text (λ t. Answers w (read_plain t) s)) (sym (status ∙ ap status_of is)) (answered_memory w text)
+    subst (λ s. IfSome text (λ t. Answers w (reading_of t) s (Says e e' n n'))) (sym (status ∙ ap status_of is)) (answered_memory w (Says e e' n n') text)

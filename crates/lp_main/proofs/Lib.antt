@@ -1,3 +1,4 @@
 pub mod ThreeWords
+pub mod SimpleRows
 pub mod Solving
 pub mod Ending

@@ -4,25 +4,24 @@ use Rattle.std.specs.Prelude.{IfErr, IfSome, OnOk, Result}
 use Rattle.io_ends.specs.Bytes.{Appends, AppendsPrefix}
 use Rattle.lp_model.specs.Deck.{Deck}
 use Rattle.lp_model.specs.Outcome.{optimal}
-use Rattle.lp_text.specs.PlainDeck.{IsDeckOf}
 use Rattle.lp_text.specs.Report.{report_text}
-use Rattle.lp_text.proofs.PlainSimple.{plain_deck_is_simple}
+use Rattle.mps_model.specs.DeckOf.{IsDeckOf}
 use Rattle.deck_model.specs.Outcome.{outcome_of}
 use Rattle.cert_text.specs.declared.report.Report.{Report}
 use Rattle.cert_text.specs.Report.{text_of_report}
 use Rattle.simple_solve.specs.Solved.{ShowsOptimum}
 use Rattle.lp_main.specs.declared.refusal.Refusal.{Refusal}
 use Rattle.lp_main.specs.declared.refusal.Refusal.TheVariants as refusal
-use Rattle.lp_main.specs.Serves.{BeginsReport, IsLater, IsNoDeck, IsSolved, Reports, budget}
+use Rattle.lp_main.specs.Serves.{BeginsReport, IsSolved, Reports, budget}
 use Rattle.lp_main.specs.Solves.{IsCause, IsReadingCause, IsReportCause, IsReportOf, IsWriteCause}
 
 -- a report of a text's deck says what the text's solve owes
 module _ (t : List ℕ) (old new : Option (List ℕ)) (d : Deck) (line : ℕ) (report : Report) (read : IsDeckOf t d line) (is : IsReportOf d report) where
   shown : ShowsOptimum d budget (outcome_of report.outcome)
-  shown = is.optimum (plain_deck_is_simple t d line read)
+  shown = is.optimum
 
   solved : IsSolved t d line shown.0 shown.1 shown.2 shown.3
-  solved = record { read = read; optimum = shown.5 }
+  solved = record { read = record { read = read; simple = is.simple }; optimum = shown.5 }
 
   same_text : text_of_report d report ≡ report_text d (optimal shown.1 shown.2 shown.3) None
   same_text = ap (report_text d (outcome_of report.outcome)) is.no_log ∙ ap (λ o. report_text d o None) shown.4
@@ -50,6 +49,7 @@ write_cause : (w : ℕ) (text left old new : Option (List ℕ)) (e : Refusal) �
 write_cause w text left old new refusal.Write h begun = begun
 write_cause w text left old new refusal.Memory h begun = inr begun
 write_cause w text left old new refusal.Read h begun = absurd h
+write_cause w text left old new (refusal.Deck fault) h begun = absurd h
 write_cause w text left old new (refusal.Later n) h begun = absurd h
 write_cause w text left old new refusal.Usage h begun = absurd h
 write_cause w text left old new refusal.Overflow h begun = absurd h
@@ -62,23 +62,20 @@ cause_from w (Err e) text left old new d line report read is cause appended = wr
 
 pub report_cause : (w : ℕ) (e : Refusal) (text left old : Option (List ℕ)) (d : Deck) (line : ℕ) → IfSome text (λ t. IsDeckOf t d line) → IsReportCause w d line e → IsCause w text left old old e
 report_cause w (refusal.Later n) None left old d line read cause = (tt, refl)
-report_cause w (refusal.Later n) (Some t) left old d line read cause =
-    (inr (d, subst (IsDeckOf t d) (sym cause.0) read, cause.1 (plain_deck_is_simple t d line read)), refl)
+report_cause w (refusal.Later n) (Some t) left old d line read cause = ((d, subst (IsDeckOf t d) (sym cause.0) read, cause.1), refl)
 report_cause w refusal.Overflow None left old d line read cause = (tt, refl)
-report_cause w refusal.Overflow (Some t) left old d line read cause = ((d, line, read, inr (cause (plain_deck_is_simple t d line read))), refl)
+report_cause w refusal.Overflow (Some t) left old d line read cause = ((d, line, record { read = read; simple = cause.0 }, inr cause.1), refl)
 report_cause w (refusal.Budget n) None left old d line read cause = (tt, refl)
-report_cause w (refusal.Budget n) (Some t) left old d line read cause = ((cause.0, d, line, read, cause.1 (plain_deck_is_simple t d line read)), refl)
+report_cause w (refusal.Budget n) (Some t) left old d line read cause = ((cause.0, d, line, record { read = read; simple = cause.1 }, cause.2), refl)
 report_cause w refusal.Memory text left old d line read cause = inl refl
+report_cause w (refusal.Deck fault) text left old d line read cause = absurd cause
 report_cause w refusal.Write text left old d line read cause = absurd cause
 report_cause w refusal.Read text left old d line read cause = absurd cause
 report_cause w refusal.Usage text left old d line read cause = absurd cause
 
-no_deck_later : (text : Option (List ℕ)) (n : ℕ) → IfSome text (λ t. IsNoDeck t n) → IfSome text (λ t. IsLater t n)
-no_deck_later None n h = tt
-no_deck_later (Some t) n h = inl h
-
 pub reading_cause : (w : ℕ) (text left old : Option (List ℕ)) (e : Refusal) → IsReadingCause text left e → IsCause w text left old old e
-reading_cause w text left old (refusal.Later n) cause = (no_deck_later text n cause, refl)
+reading_cause w text left old (refusal.Deck fault) cause = (cause, refl)
+reading_cause w text left old (refusal.Later n) cause = absurd cause
 reading_cause w text left old refusal.Read cause = (cause, refl)
 reading_cause w text left old refusal.Memory cause = inl refl
 reading_cause w text left old refusal.Usage cause = absurd cause

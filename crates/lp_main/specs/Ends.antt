@@ -24,6 +24,7 @@ abbrev pub LeavesBy : ℕ → List (List ℕ) → Option (List ℕ) → Option (
 LeavesBy w words text left old new (Ok u) = IsServed words × IfSome text (Reports old new)
 LeavesBy w words text left old new (Err refusal.Usage) = (¬ IsServed words) × (left ≡ text) × (new ≡ old)
 LeavesBy w words text left old new (Err refusal.Memory) = (IsServed words × IsCause w text left old new refusal.Memory) ⊎ ((¬ IsServed words) × (left ≡ text) × (new ≡ old))
+LeavesBy w words text left old new (Err (refusal.Deck fault)) = IsServed words × IsCause w text left old new (refusal.Deck fault)
 LeavesBy w words text left old new (Err (refusal.Later n)) = IsServed words × IsCause w text left old new (refusal.Later n)
 LeavesBy w words text left old new (Err refusal.Read) = IsServed words × IsCause w text left old new refusal.Read
 LeavesBy w words text left old new (Err refusal.Write) = IsServed words × IsCause w text left old new refusal.Write

@@ -1,5 +1,6 @@
 pub mod Codes
 pub mod Says
+pub mod FaultLines
 pub mod Refusal
 pub mod Serves
 pub mod Solves

@@ -1,5 +1,5 @@
 -- What a solve leaves, against the text that its source had left.
-use Rattle.std.specs.Prelude.{◌≡◌, ◌⊎◌, ℕ, ◌≤◌, List, Option, Some, None}
+use Rattle.std.specs.Prelude.{◌≡◌, ◌⊎◌, ℕ, ◌≤◌, List, Option, MatchOption, Some, None}
 use Rattle.io_ends.specs.Bytes.{Appends, AppendsPrefix, Gives}
 use Rattle.rational.specs.Rational.{ℚ}
 use Rattle.lp_model.specs.declared.Entry.{Entry}
@@ -8,10 +8,16 @@ use Rattle.lp_model.specs.Instance.{instance_of}
 use Rattle.lp_model.specs.Listing.{DeckFits, DeckMeetsUnfit}
 use Rattle.lp_model.specs.Outcome.{HasOutcome, optimal}
 use Rattle.lp_model.specs.Run.{IsSpent, moves}
+use Rattle.lp_model.specs.Simple.{IsSimple}
+use Rattle.mps_model.specs.DeckOf.{HasFault, IsDeckOf, Reading, has_fault, is_deck}
+use Rattle.mps_reader.specs.declared.faults.DeckFault.{DeckFault}
+use Rattle.mps_reader.specs.Answers.{IsReadNeeded}
+use Rattle.mps_reader.specs.Refusals.{text_fault}
 use Rattle.simple_laws.specs.Stands.{IsEndless}
 use Rattle.simple_solve.specs.Solved.{IsOptimum}
-use Rattle.lp_text.specs.PlainDeck.{IsDeckOf, IsOpen, Reading, cut, departs, read_plain, reads}
+use Rattle.lp_text.specs.Refusals.{later_line}
 use Rattle.lp_text.specs.Report.{report_text}
+use Rattle.lp_main.specs.FaultLines.{fault_line}
 use Rattle.lp_main.specs.declared.status.Status.{Status}
 use Rattle.lp_main.specs.declared.status.Status.TheVariants as status
 
@@ -19,9 +25,14 @@ use Rattle.lp_main.specs.declared.status.Status.TheVariants as status
 abbrev pub budget : ℕ
 budget = 1000000
 
--- the text is a deck with this last line, whose whole run is the log, within the budget, and ends at the optimum x of the objective v, which the prices y prove
-pub record IsSolved (text : List ℕ) (d : Deck) (line : ℕ) (log : List Entry) (x y : List ℚ) (v : ℚ) : Type 0 where
+-- the text is a simple deck, which ends at the line
+pub record IsSimpleDeckOf (text : List ℕ) (d : Deck) (line : ℕ) : Type 0 where
   pub read : IsDeckOf text d line
+  pub simple : IsSimple d
+
+-- the text is a simple deck with this last line, whose whole run is the log, within the budget, and ends at the optimum x of the objective v, which the prices y prove
+pub record IsSolved (text : List ℕ) (d : Deck) (line : ℕ) (log : List Entry) (x y : List ℚ) (v : ℚ) : Type 0 where
+  pub read : IsSimpleDeckOf text d line
   pub optimum : IsOptimum d budget log x y v
 
 -- the sink gained the report of the text's deck
@@ -32,25 +43,29 @@ Reports old new text = (d : Deck) × (line : ℕ) × (log : List Entry) × (x y 
 abbrev pub BeginsReport : Option (List ℕ) → Option (List ℕ) → List ℕ → Type 0
 BeginsReport old new text = (d : Deck) × (line : ℕ) × (log : List Entry) × (x y : List ℚ) × (v : ℚ) × IsSolved text d line log x y v × AppendsPrefix old new (report_text d (optimal x y v) None)
 
--- the line is the first that departs from the plain form, or the one past the last of a text that ends too early
-abbrev pub IsNoDeck : List ℕ → ℕ → Type 0
-IsNoDeck text line = (read_plain text ≡ departs line) ⊎ (read_plain text ≡ cut line)
+-- the fault that the reader answers is the text's first
+abbrev pub IsFirstFault : List ℕ → DeckFault → Type 0
+IsFirstFault text fault = MatchOption (text_fault fault) ⊥ (HasFault text)
 
--- the text is no deck, which shows at the line; or the line is the last of a deck whose run ends at a step without a limit
+-- the deck is not simple, or it is and its run ends at a step without a limit
+abbrev pub IsUnservedDeck : Deck → Type 0
+IsUnservedDeck d = (¬ IsSimple d) ⊎ (IsSimple d × IsEndless d)
+
+-- the line ends such a deck
 abbrev pub IsLater : List ℕ → ℕ → Type 0
-IsLater text line = IsNoDeck text line ⊎ ((d : Deck) × IsDeckOf text d line × IsEndless d)
+IsLater text line = (d : Deck) × IsDeckOf text d line × IsUnservedDeck d
 
--- what was taken before a read failed has no whole line that departs, and none that ends the deck
+-- what was taken before a read failed has no whole line with a fault, and none that ends the deck; it is no more than a deck may have
 abbrev pub IsCutOff : Option (List ℕ) → List ℕ → Type 0
-IsCutOff new text = (taken : List ℕ) × Gives (Some text) new taken × IsOpen taken
+IsCutOff new text = (taken : List ℕ) × Gives (Some text) new taken × IsReadNeeded taken
 
--- the text is a deck of which some value that is listed within the budget does not fit w bits
+-- the text is a simple deck of which some value that is listed within the budget does not fit w bits
 abbrev pub IsOverflow : ℕ → List ℕ → Type 0
-IsOverflow w text = (d : Deck) × (line : ℕ) × IsDeckOf text d line × DeckMeetsUnfit w budget d
+IsOverflow w text = (d : Deck) × (line : ℕ) × IsSimpleDeckOf text d line × DeckMeetsUnfit w budget d
 
--- the text is a deck whose run needs more moves than the budget, which is n
+-- the text is a simple deck whose run needs more moves than the budget, which is n
 abbrev pub IsOverBudget : ℕ → List ℕ → Type 0
-IsOverBudget n text = (n ≡ budget) × (d : Deck) × (line : ℕ) × IsDeckOf text d line × IsSpent (instance_of d) budget
+IsOverBudget n text = (n ≡ budget) × (d : Deck) × (line : ℕ) × IsSimpleDeckOf text d line × IsSpent (instance_of d) budget
 
 abbrev pub IsOrMemory : Status → Status → Type 0
 IsOrMemory s s' = (s ≡ s') ⊎ (s ≡ status.Memory)
@@ -59,10 +74,18 @@ IsOrMemory s s' = (s ≡ s') ⊎ (s ≡ status.Memory)
 abbrev pub HasOptimum : Deck → Type 0
 HasOptimum d = (log : List Entry) × (x y : List ℚ) × (v : ℚ) × HasOutcome (instance_of d) log (optimal x y v) × (moves log ≤ budget)
 
--- which statuses a text may have, where no end failed, at a width of w bits; want of memory aside
-abbrev pub Answers : ℕ → Reading → Status → Type 0
-Answers w (departs line) s = IsOrMemory s status.BadInput
-Answers w (cut line) s = IsOrMemory s status.BadInput
-Answers w (reads d line) s =
-    (IsEndless d → IsOrMemory s status.BadInput ⊎ ((s ≡ status.Overflow) ⊎ (s ≡ status.Budget)))
-    × (HasOptimum d → DeckFits w d → IsOrMemory s status.Done)
+-- the input is refused with the line, or memory ran out; Said is what standard error has of a line
+abbrev pub RefusesInput : Status → (List ℕ → Type 0) → List ℕ → Type 0
+RefusesInput s Said line = ((s ≡ status.BadInput) × Said line) ⊎ (s ≡ status.Memory)
+
+-- which statuses a deck may have that is not simple, one whose run has no end, and one with an optimum that fits w bits
+abbrev pub AnswersDeck : ℕ → Deck → ℕ → Status → (List ℕ → Type 0) → Type 0
+AnswersDeck w d line s Said =
+    ((¬ IsSimple d) → RefusesInput s Said (later_line line))
+    × (IsSimple d → IsEndless d → RefusesInput s Said (later_line line) ⊎ ((s ≡ status.Overflow) ⊎ (s ≡ status.Budget)))
+    × (IsSimple d → HasOptimum d → DeckFits w d → IsOrMemory s status.Done)
+
+-- which statuses a text may have, and which line goes with a refused input, where no end failed, at a width of w bits; want of memory aside
+abbrev pub Answers : ℕ → Reading → Status → (List ℕ → Type 0) → Type 0
+Answers w (has_fault fault) s Said = RefusesInput s Said (fault_line fault)
+Answers w (is_deck d line) s Said = AnswersDeck w d line s Said

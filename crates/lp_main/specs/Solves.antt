@@ -7,24 +7,33 @@ use Rattle.lp_model.specs.Run.{IsSpent}
 use Rattle.lp_model.specs.Simple.{IsSimple}
 use Rattle.deck_model.specs.Outcome.{HasLengthsOf, outcome_of}
 use Rattle.cert_text.specs.declared.report.Report.{Report}
-use Rattle.simple_laws.specs.Stands.{IsEndless}
 use Rattle.simple_solve.specs.Solved.{ShowsOptimum}
+use Rattle.mps_reader.specs.declared.faults.DeckFault.{DeckFault}
+use Rattle.mps_reader.specs.declared.faults.DeckFault.TheVariants as fault
 use Rattle.lp_main.specs.declared.refusal.Refusal.{Refusal}
 use Rattle.lp_main.specs.declared.refusal.Refusal.TheVariants as refusal
-use Rattle.lp_main.specs.Serves.{BeginsReport, IsCutOff, IsLater, IsNoDeck, IsOverBudget, IsOverflow, budget}
+use Rattle.lp_main.specs.Serves.{BeginsReport, IsCutOff, IsFirstFault, IsLater, IsOverBudget, IsOverflow, IsUnservedDeck, budget}
 
--- why no deck was read: the line departs, or the text ends too early; or a read failed, and what was taken before has no fault
+-- the refusal where the reader answers this
+abbrev pub refusal_of : DeckFault → Refusal
+refusal_of fault.Read = refusal.Read
+refusal_of fault.Memory = refusal.Memory
+refusal_of fault = refusal.Deck fault
+
+-- why no deck was read: the text's first fault; or a read failed, and what was taken before has no fault
 abbrev pub IsReadingCause : Option (List ℕ) → Option (List ℕ) → Refusal → Type 0
-IsReadingCause text left (refusal.Later line) = IfSome text (λ t. IsNoDeck t line)
+IsReadingCause text left (refusal.Deck fault) = IfSome text (λ t. IsFirstFault t fault)
 IsReadingCause text left refusal.Read = IfSome text (IsCutOff left)
 IsReadingCause text left refusal.Memory = Unit {0}
 IsReadingCause text left refusal.Usage = ⊥
+IsReadingCause text left (refusal.Later line) = ⊥
 IsReadingCause text left refusal.Write = ⊥
 IsReadingCause text left refusal.Overflow = ⊥
 IsReadingCause text left (refusal.Budget moves) = ⊥
 
 -- why a solve wrote no report, and what it left in the sink
 abbrev pub IsCause : ℕ → Option (List ℕ) → Option (List ℕ) → Option (List ℕ) → Option (List ℕ) → Refusal → Type 0
+IsCause w text left old new (refusal.Deck fault) = IfSome text (λ t. IsFirstFault t fault) × (new ≡ old)
 IsCause w text left old new (refusal.Later line) = IfSome text (λ t. IsLater t line) × (new ≡ old)
 IsCause w text left old new refusal.Read = IfSome text (IsCutOff left) × (new ≡ old)
 IsCause w text left old new refusal.Write = IfSome text (BeginsReport old new)
@@ -33,19 +42,21 @@ IsCause w text left old new (refusal.Budget moves) = IfSome text (IsOverBudget m
 IsCause w text left old new refusal.Memory = (new ≡ old) ⊎ IfSome text (BeginsReport old new)
 IsCause w text left old new refusal.Usage = ⊥
 
--- the report states the optimum of the deck's whole run, where the deck is simple, without a log
+-- the deck is simple, and the report states the optimum of its whole run, without a log
 pub record IsReportOf (d : Deck) (report : Report) : Type 0 where
-  pub optimum : IsSimple d → ShowsOptimum d budget (outcome_of report.outcome)
+  pub simple : IsSimple d
+  pub optimum : ShowsOptimum d budget (outcome_of report.outcome)
   pub lengths : HasLengthsOf d (outcome_of report.outcome)
   pub no_log : report.log ≡ None
 
--- why a simple deck that was read, with this last line, has no report
+-- why a deck that was read, with this last line, has no report
 abbrev pub IsReportCause : ℕ → Deck → ℕ → Refusal → Type 0
-IsReportCause w d line (refusal.Later n) = (n ≡ line) × (IsSimple d → IsEndless d)
-IsReportCause w d line refusal.Overflow = IsSimple d → RunMeetsUnfit w budget (instance_of d)
-IsReportCause w d line (refusal.Budget moves) = (moves ≡ budget) × (IsSimple d → IsSpent (instance_of d) budget)
+IsReportCause w d line (refusal.Later n) = (n ≡ line) × IsUnservedDeck d
+IsReportCause w d line refusal.Overflow = IsSimple d × RunMeetsUnfit w budget (instance_of d)
+IsReportCause w d line (refusal.Budget moves) = (moves ≡ budget) × IsSimple d × IsSpent (instance_of d) budget
 IsReportCause w d line refusal.Memory = Unit {0}
 IsReportCause w d line refusal.Read = ⊥
+IsReportCause w d line (refusal.Deck fault) = ⊥
 IsReportCause w d line refusal.Usage = ⊥
 IsReportCause w d line refusal.Write = ⊥
 
@@ -54,6 +65,7 @@ abbrev pub IsWriteCause : Refusal → Type 0
 IsWriteCause refusal.Write = Unit {0}
 IsWriteCause refusal.Memory = Unit {0}
 IsWriteCause refusal.Read = ⊥
+IsWriteCause (refusal.Deck fault) = ⊥
 IsWriteCause (refusal.Later n) = ⊥
 IsWriteCause refusal.Usage = ⊥
 IsWriteCause refusal.Overflow = ⊥

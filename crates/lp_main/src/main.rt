@@ -5,8 +5,12 @@
 //! over any source and any sinks: where they tell their bytes, the bytes written are the report of
 //! the deck's one run by Bland's rule (Bland 1977), or one line that refuses, with its cause.
 //!
-//! The deck is read by `plain_deck`, the report written by `cert_text`; the definitions that the
-//! contract cites are those of `lp_model` and `lp_text`.
+//! Every deck in fixed MPS is read, and each fault of a text has its line. Simple decks are solved: rows
+//! of type L without ranges, right sides from 0 up, columns from 0 up. The others are answered as `later`, and so is a
+//! simple deck whose objective falls without end.
+//!
+//! The deck is read by `mps_reader`, solved by `simple_solve`, and the report written by `cert_text`; the
+//! definitions that the contract cites are those of `mps_model`, `lp_model` and `lp_text`.
 #![tactic(auto)]
 
 use crate::refusal::{Refusal, refuse};
@@ -18,7 +22,9 @@ use std::io::ErrorKind;
 use std::process::ExitCode;
 use std::rt::Env;
 
+mod fault_line;
 mod refusal;
+mod simple;
 mod solve;
 mod status;
 mod top;
@@ -46,7 +52,7 @@ fn main(rt: HostRuntime) -> ExitCode {
     let mut err = StderrEnds::new(rt.stderr());
     let mut arith = Full127::new();
     let Ok(words) = own_words(&rt) else {
-        return ExitCode::from(refuse(Refusal::Memory, alloc, &mut err).code());
+        return ExitCode::from(refuse(&Refusal::Memory, alloc, &mut err).code());
     };
     let status = top::run_alone(
         &rt,

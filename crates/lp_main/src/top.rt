@@ -1,10 +1,12 @@
 // The top call.
-ghost use Rattle.std.specs.Prelude.{◌≡◌, ◌≤◌, IfSome, map};
+ghost use Rattle.std.specs.Prelude.{◌≡◌, ◌≤◌, [], IfSome, map};
 ghost use Rattle.std.specs.String.{string_bytes};
 ghost use Rattle.io_ends.specs.Count.{Rose};
-ghost use Rattle.lp_text.specs.PlainDeck.{read_plain};
 ghost use Rattle.lp_text.specs.Words.{IsServed};
+ghost use Rattle.mps_model.specs.DeckOf.{reading_of};
+ghost use Rattle.mps_reader.specs.Answers.{IsReadAsNeeded};
 ghost use Rattle.lp_main.specs.Ends.{End, LeavesBy, SaysBy, status_of_end};
+ghost use Rattle.lp_main.specs.Says.{Says};
 ghost use Rattle.lp_main.specs.Serves.{Answers};
 
 use crate::refusal::{Refusal, refuse};
@@ -18,6 +20,29 @@ use std::thread::Threads;
 
 /// Does what the words say, on one thread: reads a deck from `deck`, writes its report to `out`, and
 /// says on `err` why it refuses, where it does.
+///
+/// What the clauses mean, where `deck` tells the text that it has left:
+///
+/// - `ends`: the call ends in one way, which has this status. Either `out` gained the report of the one
+///   run of the simple deck that the text is, and `err` nothing; or `err` gained the one line of a
+///   refusal (a beginning of it, where a write there failed), and the refusal has its cause: words that
+///   are not served; the text's first fault; `later` at the line that ends a deck which is not simple, or
+///   a simple one whose run ends at a step without a limit; a failed read, where what was taken has no
+///   whole line with a fault and none that ends the deck; a failed write; of a simple deck, a listed
+///   value that does not fit the width, or a run longer than the budget. `out` gained nothing, but after
+///   a failed write or want of memory it may have a beginning of the report.
+/// - `needed`: `deck` is read only as needed, however the call ends: before the last read, of up to 4,096
+///   bytes, no line that stands whole in the bytes that were read has a fault, none ends the deck, and the
+///   bytes are no more than a deck may have.
+/// - `source_never_falls`, `sink_never_falls`: the counts of faults of `deck` and `out` do not fall.
+/// - `unserved`: with words that are not served neither count changes.
+/// - `same_width`: the arithmetic keeps its width.
+/// - `read_fault`, `write_fault`: these statuses come only where the count of that end rose.
+/// - `answered`: with served words, and where neither count rose, the status is one that the text may
+///   have, or `Memory`. A text with a fault has `BadInput` and the line of its first fault. A deck that
+///   is not simple has `BadInput` and the line `later`; a simple deck without end has this too, or
+///   `Overflow` or `Budget`. A simple deck with an optimum within the budget, all of whose values fit,
+///   has `Done`.
 pub fn run_alone<R: Threads, S: Source, K: Sink, E: Sink, A: Arith>(
     _rt: &R,
     alloc: Global,
@@ -30,6 +55,7 @@ pub fn run_alone<R: Threads, S: Source, K: Sink, E: Sink, A: Arith>(
     ensures ends { (end : End) × (result ≡ status_of_end end)
         × LeavesBy (A.width arith.old) (map string_bytes words.now) (S.remaining deck.old) (S.remaining deck.new) (K.contents out.old) (K.contents out.new) end
         × SaysBy (E.contents err.old) (E.contents err.new) (E.fault_count err.old) (E.fault_count err.new) end }
+    ensures needed { IsReadAsNeeded [] (S.remaining deck.old) (S.remaining deck.new) }
     ensures source_never_falls { S.fault_count deck.old ≤ S.fault_count deck.new }
     ensures sink_never_falls { K.fault_count out.old ≤ K.fault_count out.new }
     ensures unserved { (¬ IsServed (map string_bytes words.now)) → (S.fault_count deck.new ≡ S.fault_count deck.old) × (K.fault_count out.new ≡ K.fault_count out.old) }
@@ -37,13 +63,14 @@ pub fn run_alone<R: Threads, S: Source, K: Sink, E: Sink, A: Arith>(
     ensures read_fault { result ≡ Status.ReadFault → Rose (S.fault_count deck.old) (S.fault_count deck.new) }
     ensures write_fault { result ≡ Status.WriteFault → Rose (K.fault_count out.old) (K.fault_count out.new) }
     ensures answered { IsServed (map string_bytes words.now) → ¬ Rose (S.fault_count deck.old) (S.fault_count deck.new) → ¬ Rose (K.fault_count out.old) (K.fault_count out.new)
-        → IfSome (S.remaining deck.old) (λ text. Answers (A.width arith.old) (read_plain text) result) }
+        → IfSome (S.remaining deck.old) (λ text. Answers (A.width arith.old) (reading_of text) result
+        (Says (E.contents err.old) (E.contents err.new) (E.fault_count err.old) (E.fault_count err.new))) }
 {
     if !is_served(words) {
-        return refuse(Refusal::Usage, alloc, err);
+        return refuse(&Refusal::Usage, alloc, err);
     }
     match solve(alloc, deck, out, arith) {
         Ok(()) => Status::Done,
-        Err(refusal) => refuse(refusal, alloc, err),
+        Err(refusal) => refuse(&refusal, alloc, err),
     }
 }

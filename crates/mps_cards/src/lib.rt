@@ -39,4 +39,5 @@ pub use cards::{Card, CardFault, CardKind, Fields};
 pub use faults::LineFault;
 pub use line_reader::LineReader;
 pub use lines::{Line, LineBytes};
+pub use no_memory::Memory;
 pub use splitting::split;

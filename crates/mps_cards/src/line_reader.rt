@@ -5,7 +5,8 @@ use crate::ahead::Ahead;
 use crate::faults::LineFault;
 use crate::gathering::{Asked, gather};
 use crate::lines::Line;
-use io_ends::{Memory, Source};
+use io_ends::Source;
+use no_memory::Memory;
 use std::alloc::Global;
 use std::marker::Model;
 

@@ -42,7 +42,7 @@ IsDecided (has_fault (crossed_bounds name)) = Unit {0}
 IsDecided (has_fault (no_end n)) = ⊥
 
 -- what the lines are after the verdict on the first
-abbrev after_line : ℕ → ℕ → Line → List Line → Result DeckSoFar LineFault → Reading
+abbrev pub after_line : ℕ → ℕ → Line → List Line → Result DeckSoFar LineFault → Reading
 after_line n used line lines (Err fault) = has_fault (in_line (suc n) fault)
 after_line n used line lines (Ok after) = if has_finished after.begun then finished after (suc n) else read_lines (suc n) (used + size_of line) after lines
 

@@ -28,7 +28,7 @@ module _ {X : Type 0} (p : X → Bool) (y : X) (own : p y ≡ true) where
       ap (λ n. cond (nat_lt n (length (xs ++ y ∷ []))) (Some n) None) (past_all xs e)
       ∙ ap (λ b. cond b (Some (length xs)) None) (lt-ltb (length xs) (length (xs ++ y ∷ [])) (omega (arith, length-append xs (y ∷ []))))
 
-position-set : {X : Type 0} (p : X → Bool) (xs : List X) (i : ℕ) (y d : X) → p y ≡ p (get_or xs i d) → position p (set xs i y) ≡ position p xs
+pub position-set : {X : Type 0} (p : X → Bool) (xs : List X) (i : ℕ) (y d : X) → p y ≡ p (get_or xs i d) → position p (set xs i y) ≡ position p xs
 position-set p xs i y d e = ap₂ (λ n m. cond (nat_lt n m) (Some n) None) (position_or_len-set p xs i y d e) (length-set xs i y)
 
 -- ── a new column ──

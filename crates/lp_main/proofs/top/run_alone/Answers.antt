@@ -1,7 +1,9 @@
-use Rattle.std.proofs.Common.{refl}
+use Rattle.std.proofs.Common.{[], refl}
 use Rattle.std.specs.Prelude.{map}
 use Rattle.std.specs.String.{string_bytes}
 use Rattle.io_ends.specs.Count.{Rose}
+use Rattle.mps_reader.proofs.NeededLemmas.{unread}
+use Rattle.lp_main.specs.Says.{Says}
 use Rattle.lp_main.proofs.Ending.{answered_done, answered_refused, ended_refused, ended_unserved}
 use Rattle.lp_main.proofs.top.run_alone.Goals as goal
 
@@ -11,9 +13,13 @@ returns-then-not-is_served-clause-ends g c =
     (g.E.Sink.contents c.args.err.now) (g.E.Sink.contents c.refuse.new.err) (g.E.Sink.fault_count c.args.err.now) (g.E.Sink.fault_count c.refuse.new.err)
     (λ served. let h = c.if-not-is_served.ensures.1 served in cc) c.refuse.ensures.said
 
+pub returns-then-not-is_served-clause-needed : goal.returns-then-not-is_served-clause-needed
+returns-then-not-is_served-clause-needed g c = unread [] (g.S.Source.remaining c.args.deck.now)
+
 pub returns-in-Ok-clause-answered : goal.returns-in-Ok-clause-answered
 returns-in-Ok-clause-answered g c = λ served no_read no_write.
-    answered_done (g.A.Arith.width c.args.arith.now) (g.S.Source.remaining c.args.deck.now) (g.K.Sink.contents c.args.out.now) (g.K.Sink.contents c.solve.new.out) c.in-Ok.ensures.done
+    answered_done (g.A.Arith.width c.args.arith.now)
+    (Says (g.E.Sink.contents c.args.err.now) (g.E.Sink.contents c.args.err.now) (g.E.Sink.fault_count c.args.err.now) (g.E.Sink.fault_count c.args.err.now)) (g.S.Source.remaining c.args.deck.now) (g.K.Sink.contents c.args.out.now) (g.K.Sink.contents c.solve.new.out) c.in-Ok.ensures.done
 
 pub returns-in-Err-clause-ends : goal.returns-in-Err-clause-ends
 returns-in-Err-clause-ends g c =

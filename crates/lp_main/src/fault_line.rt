@@ -1,0 +1,103 @@
+// The lines of the faults of a deck.
+ghost use Rattle.std.specs.Prelude.{◌≡◌, ◌++◌, IfOk, codes};
+ghost use Rattle.std.specs.Fmt.{decimal};
+ghost use Rattle.lp_text.specs.Refusals.{ended};
+ghost use Rattle.mps_model.specs.DeckOf.{crossed_bounds};
+ghost use Rattle.mps_reader.specs.Refusals.{counted};
+ghost use Rattle.lp_main.specs.FaultLines.{fault_line, limit_words, reader_line};
+
+use deck_model::Name;
+use mps_reader::{DeckFault, Which};
+use std::alloc::{AllocError, Global};
+
+/// A line of this text.
+pub fn whole_line(alloc: Global, text: &str) -> Result<Vec<u8>, AllocError>
+    ensures { IfOk result (λ line. line.items ≡ ended text.now) }
+{
+    let mut line = Vec::from_slice(alloc, text.as_bytes())?;
+    line.push(b'\n')?;
+    Ok(line)
+}
+
+/// A line with a number in it.
+pub fn numbered(
+    alloc: Global,
+    before: &str,
+    number: u64,
+    after: &str,
+) -> Result<Vec<u8>, AllocError>
+    ensures { IfOk result (λ line. line.items ≡ ended (before.now ++ decimal number ++ after.now)) }
+{
+    let mut line = String::from_str(alloc, before)?;
+    let digits = number.to_string(alloc)?;
+    line.push_str(digits.as_str())?;
+    line.push_str(after)?;
+    whole_line(alloc, line.as_str())
+}
+
+/// A line that names a column of a line.
+fn at_column(alloc: Global, number: u64, column: u8) -> Result<Vec<u8>, AllocError>
+    ensures { IfOk result (λ line. line.items ≡ ended (codes "lp: line " ++ decimal number ++ (codes ": column " ++ decimal column))) }
+{
+    let mut place = String::from_str(alloc, ": column ")?;
+    let digits = column.to_string(alloc)?;
+    place.push_str(digits.as_str())?;
+    numbered(alloc, "lp: line ", number, place.as_str())
+}
+
+/// The line of a column whose bounds cross.
+fn crossed(alloc: Global, name: &Name) -> Result<Vec<u8>, AllocError>
+    ensures { IfOk result (λ line. line.items ≡ fault_line (crossed_bounds name.now)) }
+{
+    let mut line = Vec::from_slice(alloc, b"lp: column ")?;
+    line.extend_from_slice(name.bytes())?;
+    line.extend_from_slice(b": crossed bounds")?;
+    line.push(b'\n')?;
+    Ok(line)
+}
+
+/// What is said of a limit.
+fn limit_words(which: Which) -> &'static str
+    ensures { result.now ≡ limit_words (counted which) }
+{
+    match which {
+        Which::Rows => ": limit of rows",
+        Which::Columns => ": limit of columns",
+        Which::Entries => ": limit of entries",
+        Which::Bytes => ": limit of bytes",
+    }
+}
+
+/// The line of a fault of a deck.
+pub fn fault_line(alloc: Global, fault: &DeckFault) -> Result<Vec<u8>, AllocError>
+    ensures { IfOk result (λ line. line.items ≡ reader_line fault.now) }
+{
+    match fault {
+        DeckFault::Read => whole_line(alloc, "lp: read failed"),
+        DeckFault::Memory => whole_line(alloc, "lp: out of memory"),
+        DeckFault::Columns(line, column) => at_column(alloc, *line, *column),
+        DeckFault::NotAscii(line) => numbered(alloc, "lp: line ", *line, ": byte not printable"),
+        DeckFault::Section(line) => numbered(alloc, "lp: line ", *line, ": section"),
+        DeckFault::RowType(line) => numbered(alloc, "lp: line ", *line, ": row type"),
+        DeckFault::UnknownRow(line) => numbered(alloc, "lp: line ", *line, ": unknown row"),
+        DeckFault::UnknownColumn(line) => numbered(alloc, "lp: line ", *line, ": unknown column"),
+        DeckFault::Repeated(line) => numbered(alloc, "lp: line ", *line, ": repeated"),
+        DeckFault::Scattered(line) => numbered(alloc, "lp: line ", *line, ": scattered column"),
+        DeckFault::Number(line) => numbered(alloc, "lp: line ", *line, ": number"),
+        DeckFault::Bound(line) => numbered(alloc, "lp: line ", *line, ": bound"),
+        DeckFault::Integer(line) => numbered(alloc, "lp: line ", *line, ": integer"),
+        DeckFault::NoObjective => whole_line(alloc, "lp: no objective row"),
+        DeckFault::NoEnd(lines) => {
+            numbered(
+                alloc,
+                "lp: deck ends without ENDATA after ",
+                *lines,
+                " lines",
+            )
+        }
+        DeckFault::Limit(which, line) => {
+            numbered(alloc, "lp: line ", *line, limit_words(*which))
+        }
+        DeckFault::CrossedBounds(name) => crossed(alloc, name),
+    }
+}

@@ -1,0 +1,148 @@
+-- A fault of a card is never the limit of bytes.
+use Rattle.std.specs.Prelude.{ℕ, ◌+◌, List, [], ◌∷◌, length, Option, Some, None, IfErr, Result, Ok, Err, Bool, true, false, cond, ◌||◌, ◌==◌, is_some, nat_lt, codes}
+use Rattle.std.specs.Option.{unwrap_or}
+use Rattle.rational.specs.Rational.{ℚ}
+use Rattle.lp_model.specs.Edit.{find_column, same_bytes}
+use Rattle.lp_text.specs.Cards.{Card, CardFault, card_of, field_of}
+use Rattle.lp_text.specs.PlainDeck.{column_limit, row_limit}
+use Rattle.mps_model.specs.BoundCards.{BoundKind, bound_number, has_number, integer_kinds, is_wrong_infinity, judge_bound, judge_bound_of, kind_of, with_bound}
+use Rattle.mps_model.specs.DeckSoFar.{DeckSoFar, LineFault, RowPlace, and_then, dropped, in_card, is_among, limit, number, objective, of_bytes, place_of, repeated, row, row_type, scattered, section, unknown_column, unknown_row}
+use Rattle.mps_model.specs.Judgement.{begin_section, judge_card, judge_columns, judge_data, judge_section}
+use Rattle.mps_model.specs.NumberField.{FieldFault, field_value}
+use Rattle.mps_model.specs.PairCards.{UseOfNumber, at_column, begin_column, has_room, has_second_pair, is_marker, judge_column, judge_in_set, judge_pair, judge_pairs, number_in, use_as_range, use_as_right, use_in_column, with_named, with_set}
+use Rattle.mps_model.specs.RowCards.{RowType, free, judge_row, kept, row_type_of, with_row_of}
+use Rattle.mps_model.specs.Sections.{Section, bounds, columns, finish, may_begin, ranges, right_sides, rows, section_of, title}
+
+-- a fault that a card may have: any but the limit of bytes
+abbrev pub IsOfCard : LineFault → Type 0
+IsOfCard (limit of_bytes) = ⊥
+IsOfCard other = Unit {0}
+
+-- a judgement whose fault, if it is one, is a card's
+abbrev pub JudgesCard : {T : Type 0} → Result T LineFault → Type 0
+JudgesCard judged = IfErr judged IsOfCard
+
+either : {T : Type 0} (b : Bool) (here other : Result T LineFault) → JudgesCard here → JudgesCard other → JudgesCard (cond b here other)
+either true here other h k = h
+either false here other h k = k
+
+then : {T U : Type 0} (first : Result T LineFault) (step : T → Result U LineFault) → JudgesCard first → ((x : T) → JudgesCard (step x)) → JudgesCard (and_then first step)
+then (Ok x) step h k = k x
+then (Err fault) step h k = h
+
+-- ── rows ──
+
+row_added : (s : DeckSoFar) (name : List ℕ) (kind : RowType) → JudgesCard (with_row_of s name kind)
+row_added s name free = tt
+row_added s name (kept kind) = either (nat_lt (length s.deck.rows) row_limit) _ _ tt tt
+
+row_judged : (s : DeckSoFar) (fields : List (List ℕ)) → JudgesCard (judge_row s fields)
+row_judged s fields = by (row_type_of (field_of fields 1))
+  where
+    by : (o : Option RowType) → JudgesCard (elim o [ None ↦ Err row_type | Some kind ↦ cond (is_some (place_of s (field_of fields 2))) (Err repeated) (with_row_of s (field_of fields 2) kind) ])
+    by None = tt
+    by (Some kind) = either (is_some (place_of s (field_of fields 2))) _ _ tt (row_added s (field_of fields 2) kind)
+
+-- ── pairs ──
+
+number_read : (text : List ℕ) → JudgesCard (number_in text)
+number_read text = by (field_value text)
+  where
+    by : (value : Result ℚ FieldFault) → JudgesCard {T = ℚ} (elim value [ Err fault ↦ Err number | Ok v ↦ Ok v ])
+    by (Ok v) = tt
+    by (Err fault) = tt
+
+module _ (use_number : UseOfNumber) (used : (s : DeckSoFar) (place : RowPlace) (v : ℚ) → JudgesCard (use_number s place v)) where
+  pair_judged : (s : DeckSoFar) (name text : List ℕ) → JudgesCard (judge_pair use_number s name text)
+  pair_judged s name text = by (place_of s name)
+    where
+      by : (o : Option RowPlace) → JudgesCard (elim o [ None ↦ Err unknown_row | Some place ↦ cond (is_among name s.named) (Err repeated) (and_then (number_in text) (λ v. use_number (with_named s name) place v)) ])
+      by None = tt
+      by (Some place) = either (is_among name s.named) _ _ tt (then (number_in text) _ (number_read text) (λ v. used (with_named s name) place v))
+
+  pairs_judged : (s : DeckSoFar) (fields : List (List ℕ)) → JudgesCard (judge_pairs use_number s fields)
+  pairs_judged s fields = then (judge_pair use_number s (field_of fields 3) (field_of fields 4)) _ (pair_judged s (field_of fields 3) (field_of fields 4))
+      (λ after. either (has_second_pair fields) _ _ (pair_judged after (field_of fields 5) (field_of fields 6)) tt)
+
+column_used : (s : DeckSoFar) (place : RowPlace) (v : ℚ) → JudgesCard (use_in_column s place v)
+column_used s objective v = either (has_room s v) _ _ tt tt
+column_used s (row i) v = either (has_room s v) _ _ tt tt
+column_used s dropped v = tt
+
+right_used : (s : DeckSoFar) (place : RowPlace) (v : ℚ) → JudgesCard (use_as_right s place v)
+right_used s objective v = tt
+right_used s (row i) v = tt
+right_used s dropped v = tt
+
+range_used : (s : DeckSoFar) (place : RowPlace) (v : ℚ) → JudgesCard (use_as_range s place v)
+range_used s objective v = tt
+range_used s (row i) v = tt
+range_used s dropped v = tt
+
+column_found : (s : DeckSoFar) (name : List ℕ) → JudgesCard (at_column s name)
+column_found s name = by (find_column s.deck name)
+  where
+    by : (o : Option ℕ) → JudgesCard (elim o [ None ↦ begin_column s name | Some j ↦ cond (j + 1 == length s.deck.columns) (Ok s) (Err scattered) ])
+    by None = either (nat_lt (length s.deck.columns) column_limit) _ _ tt tt
+    by (Some j) = either (j + 1 == length s.deck.columns) _ _ tt tt
+
+column_judged : (s : DeckSoFar) (fields : List (List ℕ)) → JudgesCard (judge_column s fields)
+column_judged s fields = either (is_marker (field_of fields 3) || is_marker (field_of fields 4)) _ _ tt
+    (then (at_column s (field_of fields 2)) _ (column_found s (field_of fields 2)) (λ after. pairs_judged use_in_column column_used after fields))
+
+-- ── bounds ──
+
+kind_read : (word : List ℕ) → JudgesCard (kind_of word)
+kind_read word =
+    either (same_bytes word (codes "UP")) _ _ tt
+    (either (same_bytes word (codes "LO")) _ _ tt
+    (either (same_bytes word (codes "FX")) _ _ tt
+    (either (same_bytes word (codes "FR")) _ _ tt
+    (either (same_bytes word (codes "MI")) _ _ tt
+    (either (same_bytes word (codes "PL")) _ _ tt
+    (either (is_among word integer_kinds) _ _ tt tt))))))
+
+bound_number_read : (kind : BoundKind) (text : List ℕ) → JudgesCard (bound_number kind text)
+bound_number_read kind text = either (has_number kind) _ _ (then (number_in text) _ (number_read text) (λ v. either (is_wrong_infinity kind v) _ _ tt tt)) tt
+
+bound_of_judged : (s : DeckSoFar) (kind : BoundKind) (fields : List (List ℕ)) → JudgesCard (judge_bound_of s kind fields)
+bound_of_judged s kind fields = by (find_column s.deck (field_of fields 3))
+  where
+    by : (o : Option ℕ) → JudgesCard (elim o [ None ↦ Err unknown_column | Some j ↦ and_then (bound_number kind (field_of fields 4)) (λ v. Ok (with_bound s kind j v)) ])
+    by None = tt
+    by (Some j) = then (bound_number kind (field_of fields 4)) _ (bound_number_read kind (field_of fields 4)) (λ v. tt)
+
+bound_judged : (s : DeckSoFar) (fields : List (List ℕ)) → JudgesCard (judge_bound s fields)
+bound_judged s fields = then (kind_of (field_of fields 1)) _ (kind_read (field_of fields 1)) (λ kind. bound_of_judged s kind fields)
+
+-- ── cards ──
+
+in_set_judged : (judge : DeckSoFar → List (List ℕ) → Result DeckSoFar LineFault) → ((s : DeckSoFar) (fields : List (List ℕ)) → JudgesCard (judge s fields))
+    → (s : DeckSoFar) (fields : List (List ℕ)) → JudgesCard (judge_in_set judge s fields)
+in_set_judged judge h s fields = either (same_bytes (unwrap_or s.set (field_of fields 2)) (field_of fields 2)) _ _ (h (with_set s (field_of fields 2)) fields) tt
+
+data_judged : (begun : List Section) (s : DeckSoFar) (fields : List (List ℕ)) → JudgesCard (judge_data begun s fields)
+data_judged (rows ∷ begun) s fields = row_judged s fields
+data_judged (columns ∷ begun) s fields = column_judged s fields
+data_judged (right_sides ∷ begun) s fields = in_set_judged _ (pairs_judged use_as_right right_used) s fields
+data_judged (ranges ∷ begun) s fields = in_set_judged _ (pairs_judged use_as_range range_used) s fields
+data_judged (bounds ∷ begun) s fields = in_set_judged _ bound_judged s fields
+data_judged (title ∷ begun) s fields = tt
+data_judged (finish ∷ begun) s fields = tt
+data_judged [] s fields = tt
+
+section_judged : (s : DeckSoFar) (fields : List (List ℕ)) → JudgesCard (judge_section s fields)
+section_judged s fields = by (section_of (field_of fields 1))
+  where
+    by : (o : Option Section) → JudgesCard (elim o [ None ↦ Err section | Some kind ↦ cond (may_begin kind s.begun) (Ok (begin_section s kind fields)) (Err section) ])
+    by None = tt
+    by (Some kind) = either (may_begin kind s.begun) _ _ tt tt
+
+-- what a line's columns are judged to be
+pub columns_judged : (s : DeckSoFar) (line : List ℕ) → JudgesCard (judge_columns s line)
+columns_judged s line = by (card_of line)
+  where
+    by : (o : Result (Option Card) CardFault) → JudgesCard (elim o [ Err fault ↦ Err (in_card fault) | Ok None ↦ Ok s | Ok (Some card) ↦ judge_card s card ])
+    by (Err fault) = tt
+    by (Ok None) = tt
+    by (Ok (Some card)) = either card.is_section _ _ (section_judged s card.fields) (data_judged s.begun s card.fields)

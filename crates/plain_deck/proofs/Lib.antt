@@ -1,7 +1,0 @@
-pub mod FieldLemmas
-pub mod CardLemmas
-pub mod Names
-pub mod ColumnLemmas
-pub mod SectionLemmas
-pub mod PairLemmas
-pub mod ReachedLemmas
