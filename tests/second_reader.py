@@ -1,0 +1,192 @@
+"""A second reader of fixed MPS, written from docs/FORMATS.md and apart from lp's: what lp must answer to a text."""
+import re
+from fractions import Fraction
+
+BYTES, ROWS, COLUMNS, ENTRIES = 4_194_304, 400, 4_000, 40_000
+INFINITY = Fraction(10) ** 30
+GAPS = (4, 13, 14, 23, 24, 37, 38, 39, 48, 49)
+FIELDS = ((2, 3), (5, 12), (15, 22), (25, 36), (40, 47), (50, 61))
+NUMBER = re.compile(rb"([+-]?)(?:(\d+)(?:\.(\d*))?|\.(\d+))(?:[EeDd]([+-]?)(\d+))?")
+
+
+class Fault(Exception):
+    """The first fault of a text, by its line on standard error."""
+
+
+def number(text):
+    """The value of a number field, or none."""
+    parts = NUMBER.fullmatch(text)
+    if parts is None:
+        return None
+    whole = parts[2] or b""
+    decimals = (parts[3] if parts[2] is not None else parts[4]) or b""
+    exponent = int(parts[6] or 0) * (-1 if parts[5] == b"-" else 1)
+    if abs(exponent) > 30:
+        return None
+    value = Fraction(int(whole + decimals), 10 ** len(decimals)) * Fraction(10) ** exponent
+    fits = value.numerator < 2**127 and value.denominator < 2**127
+    return (-value if parts[1] == b"-" else value) if fits else None
+
+
+class Reader:
+    """A deck as far as its lines have come."""
+
+    def __init__(self):
+        self.line, self.used = 0, 0
+        self.begun = []
+        self.kinds, self.free = {}, []
+        self.bounds, self.last, self.lowered = {}, None, set()
+        self.rights, self.ranges = {}, {}
+        self.set, self.named, self.entries = None, set(), 0
+
+    def fault(self, what):
+        return Fault(f"lp: line {self.line}: {what}")
+
+    def take(self, raw, ended):
+        """Takes a line, and answers whether it ends the deck."""
+        self.line += 1
+        self.used += len(raw) + ended
+        if self.used > BYTES:
+            raise self.fault("limit of bytes")
+        text = raw.removesuffix(b"\r")[:61]
+        if text[:1] == b"*" or not text.strip(b" "):
+            return False
+        if any(byte < 32 or byte > 126 for byte in text):
+            raise self.fault("byte not printable")
+        text = text.ljust(61)
+        if text[:1] != b" ":
+            return self.begin(text.split(b" ")[0])
+        for column in GAPS:
+            if text[column - 1 : column] != b" ":
+                raise self.fault(f"column {column}")
+        self.take_data([None] + [text[first - 1 : last].strip(b" ") for first, last in FIELDS])
+        return False
+
+    def begin(self, word):
+        rows, columns = b"ROWS" in self.begun, b"COLUMNS" in self.begun
+        may_begin = {b"NAME": not self.begun, b"ROWS": not rows, b"COLUMNS": rows and not columns, b"ENDATA": columns}
+        for later in (b"RHS", b"RANGES", b"BOUNDS"):
+            may_begin[later] = columns and later not in self.begun
+        if not may_begin.get(word):
+            raise self.fault("section")
+        self.begun.append(word)
+        self.set, self.named = None, set()
+        return word == b"ENDATA"
+
+    def take_data(self, fields):
+        section = self.begun[-1] if self.begun else None
+        if section == b"ROWS":
+            self.take_row(fields)
+        elif section == b"COLUMNS":
+            self.take_column(fields)
+        elif section in (b"RHS", b"RANGES", b"BOUNDS"):
+            self.set = fields[2] if self.set is None else self.set
+            if fields[2] != self.set:
+                return
+            if section == b"BOUNDS":
+                self.take_bound(fields)
+            else:
+                self.take_pairs(fields, self.rights if section == b"RHS" else self.ranges)
+        else:
+            raise self.fault("section")
+
+    def take_row(self, fields):
+        kind, name = fields[1], fields[2]
+        if kind not in (b"N", b"E", b"L", b"G"):
+            raise self.fault("row type")
+        if name in self.kinds or name in self.free:
+            raise self.fault("repeated")
+        if kind == b"N":
+            self.free.append(name)
+        elif len(self.kinds) >= ROWS:
+            raise self.fault("limit of rows")
+        else:
+            self.kinds[name] = kind
+
+    def take_column(self, fields):
+        if b"'MARKER'" in (fields[3], fields[4]):
+            raise self.fault("integer")
+        name = fields[2]
+        if name not in self.bounds:
+            if len(self.bounds) >= COLUMNS:
+                raise self.fault("limit of columns")
+            self.bounds[name], self.last, self.named = (Fraction(0), None), name, set()
+        elif name != self.last:
+            raise self.fault("scattered column")
+        self.take_pairs(fields, None)
+
+    def take_pairs(self, fields, numbers):
+        pairs = [(fields[3], fields[4])]
+        if fields[5] or fields[6]:
+            pairs.append((fields[5], fields[6]))
+        for row, text in pairs:
+            if row not in self.kinds and row not in self.free:
+                raise self.fault("unknown row")
+            if row in self.named:
+                raise self.fault("repeated")
+            value = number(text)
+            if value is None:
+                raise self.fault("number")
+            self.named.add(row)
+            if numbers is None:
+                self.count(row, value)
+            elif row in self.kinds:
+                numbers[row] = value
+
+    def count(self, row, value):
+        if value != 0 and row not in self.free[1:]:
+            if self.entries >= ENTRIES:
+                raise self.fault("limit of entries")
+            self.entries += 1
+
+    def take_bound(self, fields):
+        kind, name = fields[1], fields[3]
+        if kind in (b"BV", b"LI", b"UI", b"SC"):
+            raise self.fault("integer")
+        if kind not in (b"UP", b"LO", b"FX", b"FR", b"MI", b"PL"):
+            raise self.fault("bound")
+        if name not in self.bounds:
+            raise self.fault("unknown column")
+        value = number(fields[4]) if kind in (b"UP", b"LO", b"FX") else Fraction(0)
+        if value is None:
+            raise self.fault("number")
+        if (value >= INFINITY and kind in (b"LO", b"FX")) or (value <= -INFINITY and kind in (b"UP", b"FX")):
+            raise self.fault("bound")
+        self.bounds[name] = self.ends_after(kind, value, name)
+        if kind in (b"LO", b"FX", b"FR", b"MI"):
+            self.lowered.add(name)
+
+    def ends_after(self, kind, value, name):
+        lower, upper = self.bounds[name]
+        if kind == b"UP":
+            return (None if value < 0 and name not in self.lowered else lower, None if value >= INFINITY else value)
+        if kind == b"LO":
+            return (None if value <= -INFINITY else value, upper)
+        return {b"FX": (value, value), b"FR": (None, None), b"MI": (None, upper), b"PL": (lower, None)}[kind]
+
+    def finish(self):
+        """Whether the deck is simple."""
+        if not self.free:
+            raise Fault("lp: no objective row")
+        for name, (lower, upper) in self.bounds.items():
+            if lower is not None and upper is not None and lower > upper:
+                raise Fault(f"lp: column {name.decode()}: crossed bounds")
+        return (
+            all(kind == b"L" for kind in self.kinds.values())
+            and not self.ranges
+            and all(value >= 0 for value in self.rights.values())
+            and all(ends == (0, None) for ends in self.bounds.values())
+        )
+
+
+def answer(text):
+    """The line on standard error that a text must have, and whether its deck is simple; a simple deck may have none."""
+    reader, lines = Reader(), text.split(b"\n")
+    ended = [(line, True) for line in lines[:-1]] + ([(lines[-1], False)] if lines[-1] else [])
+    try:
+        for line, is_ended in ended:
+            if reader.take(line, is_ended):
+                return f"lp: line {reader.line}: later", reader.finish()
+    except Fault as fault:
+        return str(fault), False
+    return f"lp: deck ends without ENDATA after {len(ended)} lines", False
