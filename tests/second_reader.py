@@ -1,8 +1,25 @@
-"""A second reader of fixed MPS, written from docs/FORMATS.md and apart from lp's: what lp must answer to a text."""
+#!/usr/bin/env python3
+"""A second reader of fixed MPS, written from docs/FORMATS.md and apart from lp's: the deck of a text, or its first fault.
+
+With the word --limits it prints the limits of a deck: rows, columns, entries and bytes.
+"""
+import os
 import re
+import sys
+from dataclasses import dataclass, field
 from fractions import Fraction
 
-BYTES, ROWS, COLUMNS, ENTRIES = 4_194_304, 400, 4_000, 40_000
+FORMATS = os.path.join(os.path.dirname(os.path.dirname(os.path.abspath(__file__))), "docs", "FORMATS.md")
+
+
+def limits():
+    """The limits of a deck, as docs/FORMATS.md gives them: the one place from which all tests take them."""
+    with open(FORMATS, encoding="utf-8") as text:
+        table = dict(re.findall(r"^\| (rows|columns|entries|bytes)\b[^|]*\| ([\d,]+) \|$", text.read(), re.M))
+    return [int(table[what].replace(",", "")) for what in ("rows", "columns", "entries", "bytes")]
+
+
+ROWS, COLUMNS, ENTRIES, BYTES = limits()
 INFINITY = Fraction(10) ** 30
 GAPS = (4, 13, 14, 23, 24, 37, 38, 39, 48, 49)
 FIELDS = ((2, 3), (5, 12), (15, 22), (25, 36), (40, 47), (50, 61))
@@ -11,6 +28,52 @@ NUMBER = re.compile(rb"([+-]?)(?:(\d+)(?:\.(\d*))?|\.(\d+))(?:[EeDd]([+-]?)(\d+)
 
 class Fault(Exception):
     """The first fault of a text, by its line on standard error."""
+
+
+@dataclass
+class Row:
+    name: bytes
+    kind: str
+    right: Fraction = Fraction(0)
+    range: Fraction | None = None
+
+    def interval(self):
+        """Where the activity lies: its least and its greatest value, None for no end."""
+        size = None if self.range is None else abs(self.range)
+        if self.kind == "L":
+            return None if size is None else self.right - size, self.right
+        if self.kind == "G":
+            return self.right, None if size is None else self.right + size
+        if size is None:
+            return self.right, self.right
+        return (self.right, self.right + size) if self.range >= 0 else (self.right - size, self.right)
+
+
+@dataclass
+class Column:
+    name: bytes
+    cost: Fraction = Fraction(0)
+    entries: dict = field(default_factory=dict)
+    lower: Fraction | None = Fraction(0)
+    upper: Fraction | None = None
+
+
+@dataclass
+class Deck:
+    """A linear program. An end of None is infinite. The sense is 1 for the least objective, and -1 for the greatest."""
+
+    name: bytes
+    objective: bytes
+    rows: list
+    columns: list
+    constant: Fraction
+    last_line: int
+    sense: int = 1
+
+    def is_simple(self):
+        return all(row.kind == "L" and row.range is None and row.right >= 0 for row in self.rows) and all(
+            (column.lower, column.upper) == (0, None) for column in self.columns
+        )
 
 
 def number(text):
@@ -33,10 +96,11 @@ class Reader:
 
     def __init__(self):
         self.line, self.used = 0, 0
-        self.begun = []
+        self.begun, self.title = [], b""
         self.kinds, self.free = {}, []
         self.bounds, self.last, self.lowered = {}, None, set()
         self.rights, self.ranges = {}, {}
+        self.numbers = {}
         self.set, self.named, self.entries = None, set(), 0
 
     def fault(self, what):
@@ -55,6 +119,8 @@ class Reader:
             raise self.fault("byte not printable")
         text = text.ljust(61)
         if text[:1] != b" ":
+            if text.split(b" ")[0] == b"NAME":
+                self.title = text[14:22].strip(b" ")
             return self.begin(text.split(b" ")[0])
         for column in GAPS:
             if text[column - 1 : column] != b" ":
@@ -110,7 +176,7 @@ class Reader:
         if name not in self.bounds:
             if len(self.bounds) >= COLUMNS:
                 raise self.fault("limit of columns")
-            self.bounds[name], self.last, self.named = (Fraction(0), None), name, set()
+            self.bounds[name], self.last, self.named, self.numbers[name] = (Fraction(0), None), name, set(), {}
         elif name != self.last:
             raise self.fault("scattered column")
         self.take_pairs(fields, None)
@@ -130,7 +196,8 @@ class Reader:
             self.named.add(row)
             if numbers is None:
                 self.count(row, value)
-            elif row in self.kinds:
+                self.numbers[self.last][row] = value
+            elif row in self.kinds or row == self.free[0]:
                 numbers[row] = value
 
     def count(self, row, value):
@@ -165,28 +232,31 @@ class Reader:
         return {b"FX": (value, value), b"FR": (None, None), b"MI": (None, upper), b"PL": (lower, None)}[kind]
 
     def finish(self):
-        """Whether the deck is simple."""
+        """The deck, once its last line has come."""
         if not self.free:
             raise Fault("lp: no objective row")
         for name, (lower, upper) in self.bounds.items():
             if lower is not None and upper is not None and lower > upper:
                 raise Fault(f"lp: column {name.decode()}: crossed bounds")
-        return (
-            all(kind == b"L" for kind in self.kinds.values())
-            and not self.ranges
-            and all(value >= 0 for value in self.rights.values())
-            and all(ends == (0, None) for ends in self.bounds.values())
-        )
+        objective, at = self.free[0], {name: i for i, name in enumerate(self.kinds)}
+        rows = [Row(name, kind.decode(), self.rights.get(name, Fraction(0)), self.ranges.get(name)) for name, kind in self.kinds.items()]
+        columns = []
+        for name, ends in self.bounds.items():
+            numbers = self.numbers[name]
+            entries = {at[row]: value for row, value in numbers.items() if row in at and value != 0}
+            columns.append(Column(name, numbers.get(objective, Fraction(0)), dict(sorted(entries.items())), *ends))
+        return Deck(self.title, objective, rows, columns, -self.rights.get(objective, Fraction(0)), self.line)
 
 
-def answer(text):
-    """The line on standard error that a text must have, and whether its deck is simple; a simple deck may have none."""
+def read(text):
+    """The deck of a text; its first fault is raised."""
     reader, lines = Reader(), text.split(b"\n")
     ended = [(line, True) for line in lines[:-1]] + ([(lines[-1], False)] if lines[-1] else [])
-    try:
-        for line, is_ended in ended:
-            if reader.take(line, is_ended):
-                return f"lp: line {reader.line}: later", reader.finish()
-    except Fault as fault:
-        return str(fault), False
-    return f"lp: deck ends without ENDATA after {len(ended)} lines", False
+    for line, is_ended in ended:
+        if reader.take(line, is_ended):
+            return reader.finish()
+    raise Fault(f"lp: deck ends without ENDATA after {len(ended)} lines")
+
+
+if __name__ == "__main__" and sys.argv[1:] == ["--limits"]:
+    print(*limits())

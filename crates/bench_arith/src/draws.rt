@@ -13,6 +13,9 @@ pub enum Stream {
     /// Fractions whose parts are from 2^126 to 2^127 before they are reduced. Of each four pairs one shares
     /// its denominator, and one has the left numerator as its right denominator.
     Full,
+    /// Fractions whose parts are up to 2^62 before they are reduced, short ones as often as long ones. Of each
+    /// four denominators one is 1; of each four pairs one shares its denominator.
+    Mixed,
 }
 
 impl Stream {
@@ -22,6 +25,7 @@ impl Stream {
             "small" => Some(Stream::Small),
             "wide" => Some(Stream::Wide),
             "full" => Some(Stream::Full),
+            "mixed" => Some(Stream::Mixed),
             _ => None,
         }
     }
@@ -31,7 +35,8 @@ impl Stream {
         match self {
             Stream::Small => 200_000,
             Stream::Wide => 200_000,
-            Stream::Full => 20_000,
+            Stream::Full => 100_000,
+            Stream::Mixed => 200_000,
         }
     }
 }
@@ -82,6 +87,10 @@ impl Draws {
                 let low = self.word() as u128;
                 (high * WORD + low) % HALF + HALF
             }
+            Stream::Mixed => {
+                let most = self.word() >> 2;
+                (most >> (self.word() % 62)) as u128 + 1
+            }
         }
     }
 
@@ -104,6 +113,23 @@ impl Draws {
         self.size(Stream::Full)
     }
 
+    /// A denominator of the stream `Mixed`: 1, that other number, or one of its own.
+    fn alike(&mut self, other: u128) -> u128
+        requires some { 0 < other }
+        requires below { other < 2 ^ 127 }
+        ensures some { 0 < result }
+        ensures below { result < 2 ^ 127 }
+    {
+        let choice = self.word() % 4;
+        if choice == 0 {
+            return 1;
+        }
+        if choice == 1 {
+            return other;
+        }
+        self.size(Stream::Mixed)
+    }
+
     /// The denominators of a pair whose left numerator has that size.
     fn denoms(&mut self, stream: Stream, left_size: u128) -> (u128, u128)
         requires some { 0 < left_size }
@@ -123,6 +149,11 @@ impl Draws {
             Stream::Full => {
                 let left = self.size(stream);
                 let right = self.shared(left_size, left);
+                (left, right)
+            }
+            Stream::Mixed => {
+                let left = self.alike(left_size);
+                let right = self.alike(left);
                 (left, right)
             }
         }

@@ -1,6 +1,6 @@
 //! The program `bench_arith`: a benchmark of the arithmetic on exact fractions.
 //!
-//! - **What it is.** Two words name a stream of operands (`small`, `wide` or `full`) and an operation
+//! - **What it is.** Two words name a stream of operands (`small`, `wide`, `full` or `mixed`) and an operation
 //!   (`add`, `sub`, `mul`, `div`, `compare` or `none`). The program draws the stream's pairs of fractions
 //!   from a fixed seed, applies the operation of `exact_frac`'s `Full127` to each, and prints how many
 //!   pairs there were, how many answers were unfit, and a checksum of all operands and answers.
@@ -27,7 +27,7 @@ mod checksum;
 mod draws;
 mod operation;
 
-const USAGE: &str = "usage: bench_arith small|wide|full add|sub|mul|div|compare|none";
+const USAGE: &str = "usage: bench_arith small|wide|full|mixed add|sub|mul|div|compare|none";
 
 /// What a run came to.
 #[derive(Drop)]

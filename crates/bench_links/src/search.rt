@@ -2,8 +2,12 @@
 ghost use Rattle.std.specs.Prelude.{◌≡◌, IfSome};
 ghost use Rattle.cross_links.specs.Matrix.{IsLink, IsMatrix};
 
+use crate::checksum::Checksum;
+use crate::eliminate::eliminate;
 use crate::scan::scan;
 use cross_links::Cross;
+use no_memory::Memory;
+use std::alloc::Global;
 
 /// A way to seek the entry of least cost.
 #[derive(Clone, Copy)]
@@ -14,6 +18,8 @@ pub enum Search {
     Scan,
     /// None is sought.
     Load,
+    /// By the buckets, with an elimination after each.
+    Eliminate,
 }
 
 impl Search {
@@ -23,6 +29,7 @@ impl Search {
             "least" => Some(Search::Least),
             "scan" => Some(Search::Scan),
             "load" => Some(Search::Load),
+            "eliminate" => Some(Search::Eliminate),
             _ => None,
         }
     }
@@ -34,15 +41,34 @@ impl Search {
         ensures { IfSome result (IsLink cross.now) }
     {
         match self {
-            Search::Least => cross.least(),
+            Search::Least | Search::Eliminate => cross.least(),
             Search::Scan => scan(cross, size),
             Search::Load => None,
         }
     }
 }
 
-/// Removes the row and the column of an entry, and answers them.
-pub fn take(cross: &mut Cross, link: u32) -> (usize, usize)
+/// Takes a pivot out, and answers its row and its column.
+pub fn take(
+    alloc: Global,
+    search: Search,
+    cross: &mut Cross,
+    link: u32,
+    checksum: &mut Checksum,
+) -> Result<(usize, usize), Memory>
+    requires link { IsLink cross.old link }
+    requires matrix { IsMatrix cross.old }
+    ensures size { cross.new.size ≡ cross.old.size }
+    ensures matrix { IsMatrix cross.new }
+{
+    match search {
+        Search::Eliminate => eliminate(alloc, cross, link, checksum),
+        _ => Ok(remove(cross, link)),
+    }
+}
+
+// Removes the row and the column of an entry, and answers them.
+fn remove(cross: &mut Cross, link: u32) -> (usize, usize)
     requires link { IsLink cross.old link }
     requires matrix { IsMatrix cross.old }
     ensures size { cross.new.size ≡ cross.old.size }

@@ -35,8 +35,6 @@
 mod fault;
 mod line;
 mod report;
-#[cfg(test)]
-mod tests;
 mod write;
 
 pub use fault::ReportWriteFault;

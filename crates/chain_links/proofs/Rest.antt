@@ -1,12 +1,12 @@
 -- What is left of a list from an item on, as it is followed from item to item.
-use Rattle.std.proofs.Common.{◌≡◌, ◌≢◌, ℕ, ◌<◌, List, [], ◌∷◌, length, cond, eqb, false, Option, Some, None, slice_get, refl, sym, ap, subst, ◌∙◌, ⊎_elim, ◌⊎◌, inl, inr, arith}
+use Rattle.std.proofs.Common.{◌≡◌, ◌≢◌, ℕ, ◌<◌, List, [], ◌∷◌, length, eqb, false, Option, Some, None, slice_get, refl, sym, ap, subst, ◌∙◌, ⊎_elim, ◌⊎◌, inl, inr, arith}
 use Rattle.std.specs.List.{Contains, IsDistinct, AllByRecursion}
 use Rattle.std.specs.Option.{IfSome}
 use Rattle.std.proofs.lemmas.Bool.{cases_eq, eq-eqb, ne_eqb, eqb-false, cond-true, cond-false}
 use Rattle.std.proofs.lemmas.List.Elements.{Contains-append_left, Contains-append_right, Contains-append_cases}
 use Rattle.std.proofs.lemmas.Map.Keys.{IsDistinct-head, IsDistinct-tail}
 use Rattle.std.proofs.lemmas.List.Elements.{All-contains}
-use Rattle.chain_links.specs.Lists.{after}
+use Rattle.chain_links.specs.Lists.{after, rest}
 
 pub contains_one : (i x : ℕ) → Contains (i ∷ []) x → x ≡ i
 contains_one i x h =
@@ -17,16 +17,6 @@ one_contains i = (0, omega arith, refl)
 
 pub nothing_contains : (x : ℕ) → Contains [] x → ⊥
 nothing_contains x h = omega (arith, h.1)
-
--- the list from item x on
-abbrev pub from : ℕ → List ℕ → List ℕ
-from x [] = []
-from x (y ∷ ys) = cond (eqb y x) (y ∷ ys) (from x ys)
-
--- what is left where the next item is known
-abbrev pub rest : Option ℕ → List ℕ → List ℕ
-rest None xs = []
-rest (Some x) xs = from x xs
 
 pub cons_cases : (y : ℕ) (ys : List ℕ) (x : ℕ) → Contains (y ∷ ys) x → (x ≡ y) ⊎ Contains ys x
 cons_cases y ys x h =

@@ -6,8 +6,8 @@ use Rattle.std.proofs.lemmas.Bool.{cases_eq, cases_lt}
 use Rattle.std.proofs.lemmas.List.{set-set, set-get_or, same_lists, get_or_default, get_or_past, get_or-replicate, length-replicate, append_assoc, append-nil}
 use Rattle.std.proofs.lemmas.List.Elements.{All-weaker, Contains-append_right}
 use Rattle.std.proofs.lemmas.Map.Keys.{IsDistinct-head, IsDistinct-tail}
-use Rattle.chain_links.specs.Lists.{after}
-use Rattle.chain_links.proofs.Rest.{rest, rest-first, rest-next, IfSome-first, nothing_contains, cons_cases, head_contains, head_other}
+use Rattle.chain_links.specs.Lists.{after, rest}
+use Rattle.chain_links.proofs.Rest.{rest-first, rest-next, IfSome-first, nothing_contains, cons_cases, head_contains, head_other}
 use Rattle.count_chain.specs.Chains.{Chains, list_at, IsPlaced, with_item, with_list, IsChained}
 
 same_chains : (a b : Chains) → a.items ≡ b.items → a.lists ≡ b.lists → a ≡ b

@@ -12,7 +12,7 @@ use Rattle.chain_links.specs.Lists.{without, after}
 use Rattle.chain_links.proofs.Rest.{nothing_contains, IfSome-after, head_contains, tail_contains}
 use Rattle.chain_links.proofs.Rings.{All-has}
 use Rattle.count_chain.specs.Chains.{Chains, list_at, with_item, without_item, IsChained}
-use Rattle.cross_links.specs.Matrix.{Entry, Matrix, line, row, col, at_link, row_in, col_in, row_of, col_of, is_active, IsLink, Has, IsSide, IsMatrix, IsGrown, IsFilled, with_entry, without_entry, without_entries, without_row, without_col}
+use Rattle.cross_links.specs.Matrix.{Entry, Matrix, line, row, col, at_link, row_in, col_in, row_of, col_of, is_active, Has, IsSide, IsMatrix, IsGrown, IsFilled, with_entry, without_entry, without_entries, without_row, without_col}
 use Rattle.cross_links.proofs.Buckets.{item_in, item_held, others_held, left_in, left_held, list_at-without_item, list_at-with_item_other, not_in_tail, without-head, bool_cases, line_within}
 
 pub none_some : (o : Option Entry) → o ≡ None → IsSome o → ⊥
@@ -45,7 +45,7 @@ differ_mapped x key [] h = tt
 differ_mapped x key (z ∷ zs) h =
     (ne_eqb x (key z) (h z (head_contains z zs)), differ_mapped x key zs (λ k held. h k (tail_contains z zs k held)))
 
-distinct_mapped : (key : ℕ → ℕ) (ls : List ℕ) → IsDistinct eqb ls → ((l k : ℕ) → Contains ls l → Contains ls k → key l ≡ key k → l ≡ k) → IsDistinct eqb (map key ls)
+pub distinct_mapped : (key : ℕ → ℕ) (ls : List ℕ) → IsDistinct eqb ls → ((l k : ℕ) → Contains ls l → Contains ls k → key l ≡ key k → l ≡ k) → IsDistinct eqb (map key ls)
 unfolding IsDistinct
 distinct_mapped key [] once one = tt
 distinct_mapped key (y ∷ ys) once one = (
@@ -217,23 +217,7 @@ module _ (a b : Matrix) (i l : ℕ) (h : IsMatrix a) where
       let left : col b i ≡ split.0 = ap (λ (x : Matrix). col x i) is ∙ taken_rest a.cols i l split.0 (h.cols.once i) split.1 in
       omega (arith, ap length left, ap length split.1)
 
--- a place without an entry has none when there is more room
-pub grown_absent : (a b : Matrix) (r c : ℕ) → IsGrown a b → (Has a r c → ⊥) → Has b r c → ⊥
-grown_absent a b r c h absent (l, some, in_r, in_c) =
-    absent (l, subst IsSome (h.same l) some, sym (ap row_in (h.same l)) ∙ in_r, sym (ap col_in (h.same l)) ∙ in_c)
-
--- more room, or none
-pub IsGrown-same : (a : Matrix) → IsGrown a a
-IsGrown-same a = record {
-  size = refl;
-  same = λ l. refl;
-  rows = refl;
-  cols = refl;
-  active_rows = refl;
-  active_cols = refl;
-  used_again = λ lt l below. absurd (omega arith);
-}
-
+-- an entry more, where there was room or room was made
 pub IsFilled-from : (a b c : Matrix) (l : ℕ) (e : Entry) → IsGrown a b → at_link b.entries l ≡ None → l < length b.entries → c ≡ with_entry b l e → IsFilled a l e c
 IsFilled-from a b c l e h free within is = record {
   free = sym (h.same l) ∙ free;
@@ -245,6 +229,7 @@ IsFilled-from a b c l e h free within is = record {
   active_rows = ap (λ (x : Matrix). x.active_rows) is ∙ h.active_rows;
   active_cols = ap (λ (x : Matrix). x.active_cols) is ∙ h.active_cols;
   used_again = λ lt. h.used_again (omega (arith, ap (λ (x : Matrix). length x.entries) is, length-set b.entries l (Some e)));
+  few = omega (arith, h.few, ap (λ (x : Matrix). length x.entries) is, length-set b.entries l (Some e));
 }
 
 -- the size, and what was removed, stay when entries go
@@ -276,10 +261,3 @@ module _ (a b m : Matrix) (i : ℕ) (same : m ≡ a) where
         ap (λ (x : Matrix). x.active_rows) from ∙ active_rows_kept (col a i) a,
         ap (λ (x : Matrix). x.active_cols) from ∙ ap (λ (on : List Bool). set on i false) (active_cols_kept (col a i) a),
       )
-
--- the row and the column of an entry have entries
-pub row_nonempty : (a : Matrix) (l : ℕ) → IsMatrix a → IsLink a l → 0 < length (row a (row_of a l))
-row_nonempty a l h some = omega (arith, (h.rows.held l some).1)
-
-pub col_nonempty : (a : Matrix) (l : ℕ) → IsMatrix a → IsLink a l → 0 < length (col a (col_of a l))
-col_nonempty a l h some = omega (arith, (h.cols.held l some).1)

@@ -7,7 +7,7 @@ use Rattle.std.proofs.lemmas.Option.{get_or_from_slice_get, slice_get_within}
 use Rattle.std.proofs.lemmas.Bool.{cond-true, cond-false, eq-eqb, ne_eqb}
 use Rattle.rational.specs.Rational.{ℚ}
 use Rattle.sparse_cols.specs.Sparse.{Sparse, IsRising, value_at}
-use Rattle.sparse_cols.proofs.Pairs.{row_below, row_from}
+use Rattle.sparse_cols.proofs.Pairs.{row_from}
 use Rattle.chain_links.proofs.Rest.{cons_cases, head_contains, tail_contains, nothing_contains}
 use Rattle.cross_links.specs.Matrix.{Entry, Matrix, line, col, entry_at, row_in, pair_in, col_pairs, Has, IsMatrix, IsFilled}
 use Rattle.cross_links.proofs.Entries.{none_some, some_entry}
@@ -18,11 +18,7 @@ value_at-head p ps i e = cond-true (eqb p.0 i) _ _ (eq-eqb p.0 i e)
 value_at-tail : (p : ℕ × ℚ) (ps : List (ℕ × ℚ)) (i : ℕ) → p.0 ≢ i → value_at (p ∷ ps) i ≡ value_at ps i
 value_at-tail p ps i ne = cond-false (eqb p.0 i) _ _ (ne_eqb p.0 i ne)
 
--- the pair at a place stands below the bound, and behind all before it
-pub place_below : (len : ℕ) (ps : List (ℕ × ℚ)) (k : ℕ) (pair : ℕ × ℚ) → IsRising len 0 ps → slice_get ps k ≡ Some pair → pair.0 < len
-place_below len ps k pair rising at =
-    omega (arith, row_below len 0 ps rising k pair (slice_get_within ps k pair at), ap (λ (p : ℕ × ℚ). p.0) (get_or_from_slice_get ps k pair pair at))
-
+-- the pair at a place stands behind all before it
 place_above : (len from : ℕ) (ps : List (ℕ × ℚ)) (k : ℕ) (pair : ℕ × ℚ) → IsRising len from ps → slice_get ps k ≡ Some pair → from ≤ pair.0
 place_above len from ps k pair rising at =
     omega (arith, row_from len from ps rising k pair (slice_get_within ps k pair at), ap (λ (p : ℕ × ℚ). p.0) (get_or_from_slice_get ps k pair pair at))

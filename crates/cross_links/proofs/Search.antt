@@ -5,8 +5,8 @@ use Rattle.std.specs.Option.{IfSome}
 use Rattle.std.proofs.lemmas.Nat.{mul-le}
 use Rattle.std.proofs.lemmas.List.{get_or_read}
 use Rattle.std.proofs.lemmas.List.Elements.{All-contains}
-use Rattle.chain_links.specs.Lists.{after}
-use Rattle.chain_links.proofs.Rest.{rest, rest-first, rest-shorter, rest_cases, IfSome-first, IfSome-after, nothing_contains}
+use Rattle.chain_links.specs.Lists.{after, rest}
+use Rattle.chain_links.proofs.Rest.{rest-first, rest-shorter, rest_cases, IfSome-first, IfSome-after, nothing_contains}
 use Rattle.count_chain.specs.Chains.{list_at}
 use Rattle.cross_links.specs.declared.table.Table.{Table}
 use Rattle.cross_links.specs.Matrix.{Entry, Matrix, row, col, at_link, row_in, col_in, row_of, col_of, cost_of, IsLink, IsNotWorse}

@@ -4,7 +4,9 @@ use Rattle.std.specs.List.{Contains}
 use Rattle.count_chain.specs.Chains.{list_at, IsChained}
 use Rattle.cross_links.specs.declared.table.Table.{Table}
 use Rattle.cross_links.specs.Matrix.{Matrix, at_link, IsMatrix}
+use Rattle.cross_links.specs.declared.cheap.Cheap.{Cheap}
 use Rattle.cross_links.specs.Sides.{IsKept}
+use Rattle.cross_links.specs.Cheap.{IsCheap}
 
 -- the matrix of the table
 abbrev pub matrix_of : Table → Matrix
@@ -23,3 +25,8 @@ pub record IsHeld (t : Table) : Type 0 where
   pub free_chained : IsChained t.free
   pub free_held : (l : ℕ) → l < length t.entries.items → at_link t.entries.items l ≡ None → Contains (list_at t.free 0) l
   pub free_only : (l k : ℕ) → Contains (list_at t.free k) l → at_link t.entries.items l ≡ None
+
+-- and its entries of cost 0 are known
+pub record IsReady (t : Table) (h : Cheap) : Type 0 where
+  pub held : IsHeld t
+  pub cheap : IsCheap (matrix_of t) h

@@ -1,3 +1,5 @@
 pub mod Matrix
 pub mod Sides
+pub mod Cheap
+pub mod Cells
 pub mod Held

@@ -1,5 +1,5 @@
 -- The active part of a matrix: its entries, linked by rows and by columns.
-use Rattle.std.specs.Prelude.{◌≡◌, ℕ, ◌-◌, ◌*◌, ◌^◌, ◌<◌, ◌≤◌, ◌⊎◌, Bool, false, List, [], ◌∷◌, ◌++◌, Option, Some, None, map, length, slice_index_or, slice_set, IsSome, nat_eq}
+use Rattle.std.specs.Prelude.{◌≡◌, ℕ, ◌+◌, ◌-◌, ◌*◌, ◌^◌, ◌<◌, ◌≤◌, ◌⊎◌, Bool, false, List, [], ◌∷◌, ◌++◌, Option, Some, None, map, length, slice_index_or, slice_set, IsSome, nat_eq}
 use Rattle.std.specs.List.{Contains, IsDistinct}
 use Rattle.rational.specs.Rational.{ℚ, zero_ℚ}
 use Rattle.chain_links.specs.Lists.{without}
@@ -115,7 +115,7 @@ without_row a r = retired_row (without_entries (row a r) a) r
 abbrev pub without_col : Matrix → ℕ → Matrix
 without_col a c = retired_col (without_entries (col a c) a) c
 
--- the same entries in the same order; only where an entry stands at each link there may be links more
+-- the same entries in the same order; only where an entry stands at each link there may be links more, and few
 pub record IsGrown (a b : Matrix) : Type 0 where
   pub size : b.size ≡ a.size
   pub same : (l : ℕ) → entry_at b l ≡ entry_at a l
@@ -124,6 +124,7 @@ pub record IsGrown (a b : Matrix) : Type 0 where
   pub active_rows : b.active_rows ≡ a.active_rows
   pub active_cols : b.active_cols ≡ a.active_cols
   pub used_again : length a.entries < length b.entries → (l : ℕ) → l < length a.entries → IsLink a l
+  pub few : length b.entries ≤ 2 * length a.entries + 1
 
 -- the matrix b is a with an entry more, at a link at which none stood
 pub record IsFilled (a : Matrix) (l : ℕ) (e : Entry) (b : Matrix) : Type 0 where
@@ -135,8 +136,9 @@ pub record IsFilled (a : Matrix) (l : ℕ) (e : Entry) (b : Matrix) : Type 0 whe
   pub cols : b.cols ≡ slice_set a.cols e.1 (col a e.1 ++ l ∷ [])
   pub active_rows : b.active_rows ≡ a.active_rows
   pub active_cols : b.active_cols ≡ a.active_cols
-  -- more links are made only where an entry stands at each
+  -- more links are made only where an entry stands at each, and then at most twice as many and one
   pub used_again : length a.entries < length b.entries → (k : ℕ) → k < length a.entries → IsLink a k
+  pub few : length b.entries ≤ 2 * length a.entries + 1
 
 -- how many fills an elimination with the pivot in row r and column c makes at most
 abbrev pub cost : Matrix → ℕ → ℕ → ℕ

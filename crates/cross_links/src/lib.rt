@@ -14,11 +14,13 @@
 //! link. Each change says what the whole matrix is afterwards. `least` answers the entry of least cost, then
 //! least row, then least column (`IsLeast`), and nothing exactly where there is no entry. Only `load` and `fill`
 //! take memory; after a refusal of `fill` the matrix is as it was. A link that was freed is used again: `fill`
-//! makes more links only where an entry stands at each (`IsFilled`).
+//! makes more links only where an entry stands at each, and then at most twice as many and one (`IsFilled`).
+//! `specs/Cells.antt` has the value in a row and a column, and `proofs/Cells.antt` what each change does to it.
 //!
 //! It stands on `count_chain`. The entries of the rows are linked in one chain and those of the columns in
 //! another, both ways, so an entry goes and comes in constant time; two more chains are the buckets, and a
-//! fifth has the free links.
+//! fifth has the free links. An entry of cost 0 is alone in its row or in its column: the rows of such entries
+//! are flagged in `flag_tree`s, so that the first of them is found in steps of the logarithm of m.
 //!
 //! Method: H. M. Markowitz, The Elimination Form of the Inverse and its Application to Linear Programming,
 //! Management Science 3 (1957); the search by buckets as in Duff, Erisman and Reid, Direct Methods for Sparse
@@ -29,8 +31,9 @@
 ghost use Rattle.std.specs.Prelude.{◌≡◌, ◌<◌, ◌^◌, ℕ, [], true, false, IfOk, IfSome, OnOk, OnErr, MatchOption, Some, length, map, replicate, slice_get, slice_index_or, slice_set};
 ghost use Rattle.std.specs.List.{All};
 ghost use Rattle.chain_links.specs.Lists.{after};
-ghost use Rattle.cross_links.specs.Matrix.{row, col, entry_at, is_active, row_of, col_of, col_pairs, line, IsLink, Has, IsMatrix, IsFilled, with_value, without_entry, without_row, without_col, IsLeast};
+ghost use Rattle.cross_links.specs.Matrix.{row, col, entry_at, is_active, row_of, col_of, col_pairs, line, IsLink, Has, IsMatrix, IsFilled, with_value, without_entry, without_entries, without_row, without_col, IsLeast};
 
+use crate::cheap::Cheap;
 use crate::table::Table;
 use exact_frac::Frac;
 pub use no_memory::Memory;
@@ -40,27 +43,27 @@ use std::marker::{Brand, Model};
 use std::sync::ledger::{Blank, Ledger};
 use step_counter::Steps;
 
+mod cheap;
 mod pivot;
 mod side;
 mod table;
-#[cfg(test)]
-mod tests;
 
 /// The entries of the active part, by rows and by columns.
 #[derive(Drop)]
 pub struct Cross {
     table: Table,
+    cheap: Cheap,
 }
 
 impl Model for Cross {
     ghost use Rattle.cross_links.specs.Matrix.{Matrix};
-    ghost use Rattle.cross_links.specs.Held.{matrix_of, IsHeld};
+    ghost use Rattle.cross_links.specs.Held.{matrix_of, IsReady};
 
     ghost Value = { Matrix };
 
     ghost view = { λ a. matrix_of a.table };
 
-    ghost invariant = { λ a. IsHeld a.table };
+    ghost invariant = { λ a. IsReady a.table a.cheap };
 }
 
 impl Cross {
@@ -97,6 +100,7 @@ impl Cross {
         let mut steps = Steps::<L>::new(blank);
         Ok(Cross {
             table: Table::new(alloc, m, &mut steps)?,
+            cheap: Cheap::new(alloc, m)?,
         })
     }
 
@@ -234,7 +238,22 @@ impl Cross {
         ensures matrix { IsMatrix self.new }
     {
         let mut steps = Steps::<L>::new(blank);
-        self.table.cancel(link as usize, &mut steps);
+        self.take_out(link, &mut steps);
+    }
+
+    // Takes an entry out.
+    fn take_out<L: Ledger>(&mut self, link: u32, steps: &mut Steps<L>)
+        requires { IsLink self.old link }
+        ensures cancelled { self.new ≡ without_entry self.old link }
+        ensures matrix { IsMatrix self.new }
+    {
+        let (r, c, _) = self.table.entry(link as usize);
+        let before = self.table.lone_row(c);
+        self.cheap.take(c, before, steps);
+        self.table.cancel(link as usize, steps);
+        let after = self.table.lone_row(c);
+        self.cheap.put(c, after, steps);
+        self.cheap.singles.set(r, self.table.is_single(r));
     }
 
     /// Puts an entry into row `r` and column `c`, where there is none and neither of which was removed, and
@@ -275,7 +294,12 @@ impl Cross {
         ensures matrix { IsMatrix self.new }
     {
         let mut steps = Steps::<L>::new(blank);
+        let before = self.table.lone_row(c);
         let link = self.table.fill(r, c, v, &mut steps)?;
+        self.cheap.take(c, before, &mut steps);
+        let after = self.table.lone_row(c);
+        self.cheap.put(c, after, &mut steps);
+        self.cheap.singles.set(r, self.table.is_single(r));
         Ok(link as u32)
     }
 
@@ -306,7 +330,22 @@ impl Cross {
         ensures matrix { IsMatrix self.new }
     {
         let mut steps = Steps::<L>::new(blank);
-        self.table.remove_row(r, &mut steps);
+        self.clear_row(r, &mut steps);
+        self.table.retire_row(r, &mut steps);
+    }
+
+    // Takes the entries of row `r` out, one after the other.
+    fn clear_row<L: Ledger>(&mut self, r: usize, steps: &mut Steps<L>)
+        requires row { r < self.old.size }
+        ensures cleared { self.new ≡ without_entries (row self.old r) self.old }
+        ensures empty { row self.new r ≡ [] }
+        ensures size { self.new.size ≡ self.old.size }
+        ensures active_rows { self.new.active_rows ≡ self.old.active_rows }
+        ensures active_cols { self.new.active_cols ≡ self.old.active_cols }
+    {
+        'entries: while let Some(link) = self.row_first(r) {
+            self.take_out(link, steps);
+        }
     }
 
     /// Removes column `c`, which was not removed, with its entries.
@@ -336,7 +375,22 @@ impl Cross {
         ensures matrix { IsMatrix self.new }
     {
         let mut steps = Steps::<L>::new(blank);
-        self.table.remove_col(c, &mut steps);
+        self.clear_col(c, &mut steps);
+        self.table.retire_col(c, &mut steps);
+    }
+
+    // Takes the entries of column `c` out, one after the other.
+    fn clear_col<L: Ledger>(&mut self, c: usize, steps: &mut Steps<L>)
+        requires col { c < self.old.size }
+        ensures cleared { self.new ≡ without_entries (col self.old c) self.old }
+        ensures empty { col self.new c ≡ [] }
+        ensures size { self.new.size ≡ self.old.size }
+        ensures active_rows { self.new.active_rows ≡ self.old.active_rows }
+        ensures active_cols { self.new.active_cols ≡ self.old.active_cols }
+    {
+        'entries: while let Some(link) = self.col_first(c) {
+            self.take_out(link, steps);
+        }
     }
 
     /// The entry of least cost, then least row, then least column; nothing exactly where there is no entry.
@@ -346,7 +400,7 @@ impl Cross {
         ensures least { MatchOption result ((l : ℕ) → ¬ IsLink self.now l) (λ link. IsLeast self.now link) }
         ensures matrix { IsMatrix self.now }
     {
-        match pivot::best(&self.table) {
+        match pivot::best(&self.table, &self.cheap) {
             Some(link) => Some(link as u32),
             None => None,
         }

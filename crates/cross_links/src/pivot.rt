@@ -1,16 +1,46 @@
 // The search for the entry of least cost, by the buckets.
-ghost use Rattle.std.specs.Prelude.{◌≡◌, ◌<◌, ◌≤◌, ℕ, IsTrue, length};
+ghost use Rattle.std.specs.Prelude.{◌≡◌, ◌<◌, ◌≤◌, ℕ, IsSome, IsTrue, length};
 ghost use Rattle.std.specs.List.{Contains};
 ghost use Rattle.cross_links.specs.Matrix.{row, col, row_of, col_of, cost_of, IsLink, IsNotWorse};
 ghost use Rattle.cross_links.specs.Sides.{IsLinkIfSome, Covers};
+ghost use Rattle.cross_links.specs.Cheap.{IsCheap};
 ghost use Rattle.cross_links.specs.Held.{matrix_of, IsHeld};
 
+use crate::cheap::Cheap;
 use crate::table::Table;
 
 /// The entry of least cost, then least row, then least column.
-///
-/// Lines of few entries come first. The search ends once an entry costs less than any in lines of more entries.
-pub fn best(table: &Table) -> Option<usize>
+pub fn best(table: &Table, cheap: &Cheap) -> Option<usize>
+    requires held { IsHeld table.now }
+    requires cheap { IsCheap (matrix_of table.now) cheap.now }
+    ensures link { IsLinkIfSome (matrix_of table.now) result }
+    ensures covers { (k : ℕ) → IsLink (matrix_of table.now) k → Covers (matrix_of table.now) result k }
+{
+    match first_cheap(table, cheap) {
+        Some(link) => Some(link),
+        None => best_by_count(table),
+    }
+}
+
+// The first entry of cost 0.
+fn first_cheap(table: &Table, cheap: &Cheap) -> Option<usize>
+    requires held { IsHeld table.now }
+    requires cheap { IsCheap (matrix_of table.now) cheap.now }
+    ensures link { IsLinkIfSome (matrix_of table.now) result }
+    ensures covers { IsSome result → (k : ℕ) → IsLink (matrix_of table.now) k → Covers (matrix_of table.now) result k }
+{
+    let r = cheap.first_row()?;
+    if table.is_single(r) {
+        return table.rows.lines.first(r);
+    }
+    let c = cheap.least_col(r)?;
+    table.cols.lines.first(c)
+}
+
+// The entry of least cost, then least row, then least column, by the buckets.
+//
+// Lines of few entries come first. The search ends once an entry costs less than any in lines of more entries.
+fn best_by_count(table: &Table) -> Option<usize>
     requires held { IsHeld table.now }
     ensures link { IsLinkIfSome (matrix_of table.now) result }
     ensures covers { (k : ℕ) → IsLink (matrix_of table.now) k → Covers (matrix_of table.now) result k }

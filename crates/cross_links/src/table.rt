@@ -1,9 +1,10 @@
 // The entries with their links, and the calls that change both directions at once.
-ghost use Rattle.std.specs.Prelude.{◌≡◌, ◌<◌, ◌≤◌, ◌^◌, ℕ, [], true, None, Some, length, slice_get, replicate, IfOk, OnOk, OnErr, IsSome};
+ghost use Rattle.std.specs.Prelude.{◌≡◌, ◌<◌, ◌≤◌, ◌+◌, ◌*◌, ◌^◌, ℕ, [], true, None, Some, length, slice_get, replicate, IfOk, IfSome, OnOk, OnErr};
 ghost use Rattle.std.specs.List.{Contains};
 ghost use Rattle.count_chain.specs.Chains.{list_at};
-ghost use Rattle.cross_links.specs.Matrix.{at_link, entry_at, is_active, IsLink, Has, IsGrown, IsFilled, with_value, with_entry, without_entry, without_entries, without_row, without_col, row, col};
+ghost use Rattle.cross_links.specs.Matrix.{at_link, entry_at, is_active, IsLink, Has, IsGrown, IsFilled, with_value, with_entry, without_entry, retired_row, retired_col, row, col};
 ghost use Rattle.cross_links.specs.Sides.{AreFree};
+ghost use Rattle.cross_links.specs.Cheap.{is_one, lone_row};
 ghost use Rattle.cross_links.specs.Held.{matrix_of, IsHeld};
 
 use crate::side::Side;
@@ -158,76 +159,52 @@ impl Table {
         Ok(links)
     }
 
-    /// Takes row `r` with its entries out.
-    pub fn remove_row<L: Ledger>(&mut self, r: usize, steps: &mut Steps<L>)
+    /// Removes row `r`, which has no entry.
+    pub fn retire_row<L: Ledger>(&mut self, r: usize, steps: &mut Steps<L>)
         requires held { IsHeld self.old }
         requires row { r < self.old.size }
         requires active { is_active self.old.rows.active.items r ≡ true }
-        ensures removed { matrix_of self.new ≡ without_row (matrix_of self.old) r }
+        requires empty { row (matrix_of self.old) r ≡ [] }
+        ensures removed { matrix_of self.new ≡ retired_row (matrix_of self.old) r }
         ensures held { IsHeld self.new }
     {
-        self.clear_row(r, steps);
         self.rows.retire(r, steps);
     }
 
-    // Takes the entries of row `r` out, one after the other.
-    fn clear_row<L: Ledger>(&mut self, r: usize, steps: &mut Steps<L>)
-        requires held { IsHeld self.old }
-        requires row { r < self.old.size }
-        ensures cleared { matrix_of self.new ≡ without_entries (row (matrix_of self.old) r) (matrix_of self.old) }
-        ensures empty { row (matrix_of self.new) r ≡ [] }
-        ensures size { self.new.size ≡ self.old.size }
-        ensures active { self.new.rows.active.items ≡ self.old.rows.active.items }
-        ensures held { IsHeld self.new }
-    {
-        'entries: while let Some(link) = self.first_in_row(r) {
-            self.cancel(link, steps);
-        }
-    }
-
-    // The first entry of row `r`.
-    fn first_in_row(&self, r: usize) -> Option<usize>
-        requires held { IsHeld self.now }
-        requires row { r < self.now.size }
-        ensures first { result ≡ slice_get (row (matrix_of self.now) r) 0 }
-    {
-        self.rows.lines.first(r)
-    }
-
-    /// Takes column `c` with its entries out.
-    pub fn remove_col<L: Ledger>(&mut self, c: usize, steps: &mut Steps<L>)
+    /// Removes column `c`, which has no entry.
+    pub fn retire_col<L: Ledger>(&mut self, c: usize, steps: &mut Steps<L>)
         requires held { IsHeld self.old }
         requires col { c < self.old.size }
         requires active { is_active self.old.cols.active.items c ≡ true }
-        ensures removed { matrix_of self.new ≡ without_col (matrix_of self.old) c }
+        requires empty { col (matrix_of self.old) c ≡ [] }
+        ensures removed { matrix_of self.new ≡ retired_col (matrix_of self.old) c }
         ensures held { IsHeld self.new }
     {
-        self.clear_col(c, steps);
         self.cols.retire(c, steps);
     }
 
-    // Takes the entries of column `c` out, one after the other.
-    fn clear_col<L: Ledger>(&mut self, c: usize, steps: &mut Steps<L>)
-        requires held { IsHeld self.old }
-        requires col { c < self.old.size }
-        ensures cleared { matrix_of self.new ≡ without_entries (col (matrix_of self.old) c) (matrix_of self.old) }
-        ensures empty { col (matrix_of self.new) c ≡ [] }
-        ensures size { self.new.size ≡ self.old.size }
-        ensures active { self.new.cols.active.items ≡ self.old.cols.active.items }
-        ensures held { IsHeld self.new }
+    /// Whether row `r` has one entry.
+    pub fn is_single(&self, r: usize) -> bool
+        requires held { IsHeld self.now }
+        requires row { r < self.now.size }
+        ensures { result ≡ is_one (row (matrix_of self.now) r) }
     {
-        'entries: while let Some(link) = self.first_in_col(c) {
-            self.cancel(link, steps);
-        }
+        self.rows.counts[r] == 1
     }
 
-    // The first entry of column `c`.
-    fn first_in_col(&self, c: usize) -> Option<usize>
+    /// The row of the entry of column `c`, where that has one entry.
+    pub fn lone_row(&self, c: usize) -> Option<usize>
         requires held { IsHeld self.now }
         requires col { c < self.now.size }
-        ensures first { result ≡ slice_get (col (matrix_of self.now) c) 0 }
+        ensures lone { result ≡ lone_row (matrix_of self.now) c }
+        ensures row { IfSome result (λ r. r < self.now.size) }
     {
-        self.cols.lines.first(c)
+        let link = self.cols.lines.first(c)?;
+        if self.cols.counts[c] == 1 {
+            Some(self.entry(link).0)
+        } else {
+            None
+        }
     }
 }
 
@@ -235,6 +212,7 @@ impl Table {
 fn twice(links: usize) -> Result<usize, Memory>
     ensures more { IfOk result (λ total. links < total) }
     ensures most { IfOk result (λ total. total ≤ 2 ^ 32) }
+    ensures few { IfOk result (λ total. total ≤ 2 * links + 1) }
 {
     if links >= MOST_LINKS {
         return Err(Memory);

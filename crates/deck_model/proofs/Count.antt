@@ -9,10 +9,10 @@ use Rattle.std.proofs.lemmas.Option.{get_or_from_slice_get, slice_get_within}
 use Rattle.deck_model.specs.declared.deck.ColumnData.{ColumnData}
 use Rattle.deck_model.specs.Parts.{column_of, FitsRows}
 use Rattle.deck_model.proofs.Lists.{sum_by-map, values_of-set_value_at}
-use Rattle.deck_model.proofs.Sparse.{length-le-sparse}
 use Rattle.indexmap.specs.IndexMap.{set_value_at}
 use Rattle.lp_model.specs.Deck.{Column}
 use Rattle.rational.specs.Rational.{ℚ, zero_ℚ, eq_ℚ}
+use Rattle.rational.proofs.SparseLaws.{length-le-sparse}
 
 -- 0 for 0, and 1 for another number
 abbrev pub one_unless_zero : ℚ → ℕ

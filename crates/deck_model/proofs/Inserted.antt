@@ -8,11 +8,12 @@ use Rattle.deck_model.specs.declared.deck.Deck.TheInside.{Inside}
 use Rattle.deck_model.specs.Parts.{column_of, deck_of, IsSound}
 use Rattle.deck_model.proofs.Sound.{column_at, column_changed, deck_of-column_changed}
 use Rattle.deck_model.proofs.Sparse.{length-insert_entry, sparse-insert_entry, insert_pair-insert_entry}
-use Rattle.deck_model.proofs.Zero.{eq_ℚ-other}
 use Rattle.indexmap.specs.IndexMap.{with_value_at}
-use Rattle.lp_model.specs.Deck.{Deck, IsSparse, no_column}
+use Rattle.lp_model.specs.Deck.{Deck, no_column}
+use Rattle.rational.specs.Sparse.{IsSparse}
 use Rattle.lp_model.specs.Edit.{change_column, has_entry, insert_entry, with_entry}
 use Rattle.rational.specs.Rational.{ℚ, eq_ℚ, zero_ℚ}
+use Rattle.rational.proofs.OrderLaws.{eq_ℚ-other}
 use Rattle.sparse_cols.specs.Sparse.{Sparse, with_pair}
 
 module _ (a : Inside) (j : ℕ) (v : ColumnData) (at : slice_get (values_of a.columns.entries) j ≡ Some v) (entries : Sparse ℚ) where

@@ -6,4 +6,3 @@ pub mod Lookups
 pub mod Seen
 pub mod Sound
 pub mod Sparse
-pub mod Zero

@@ -14,7 +14,8 @@ use Rattle.deck_model.proofs.Count.{count_in, entry_count-count_of, count_of-set
 use Rattle.deck_model.proofs.Lists.{map-set_value_at, values_of-set_value_at}
 use Rattle.indexmap.proofs.CallerLemmas.{keys-with_value_at, index_map_len-with_value_at}
 use Rattle.indexmap.specs.IndexMap.{with_value_at}
-use Rattle.lp_model.specs.Deck.{Column, Row, IsDeck, IsSparse, IsUncrossed, no_row, no_column}
+use Rattle.lp_model.specs.Deck.{Column, Row, IsDeck, IsUncrossed, no_row, no_column}
+use Rattle.rational.specs.Sparse.{IsSparse}
 use Rattle.lp_model.specs.Edit.{change_row, change_column}
 
 record FitsDeck (m : ℕ) (c : Column) : Type 0 where

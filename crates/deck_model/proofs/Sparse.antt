@@ -3,7 +3,7 @@ use Rattle.std.proofs.Common.{◌≡◌, ◌≢◌, ℕ, ◌+◌, ◌<◌, ◌�
 use Rattle.std.specs.Prelude.{◌==◌}
 use Rattle.std.proofs.lemmas.Bool.Decides.{nat_tests}
 use Rattle.deck_model.proofs.Lists.{none_from_is_some}
-use Rattle.lp_model.specs.Deck.{IsSparse}
+use Rattle.rational.specs.Sparse.{IsSparse}
 use Rattle.lp_model.specs.Edit.{has_entry, insert_entry}
 use Rattle.rational.specs.Rational.{ℚ, zero_ℚ}
 use Rattle.sparse_cols.specs.Sparse.{value_at, insert_pair}

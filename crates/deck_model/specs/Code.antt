@@ -3,8 +3,11 @@ use Rattle.std.specs.Prelude.{◌≡◌, ℕ, zero, suc, List, Option, refl}
 use Rattle.std.specs.Coded.{Coded, code_by, coded×, coded_ℕ, coded_list, coded_option}
 use Rattle.lp_model.specs.declared.RowKind.{RowKind}
 use Rattle.lp_model.specs.declared.RowKind.TheVariants.{L, G, E}
+use Rattle.lp_model.specs.declared.Sense.{Sense}
+use Rattle.lp_model.specs.declared.Sense.TheVariants.{Min, Max}
 use Rattle.lp_model.specs.Deck.{Row, Column, Interval, Deck}
-use Rattle.rational.specs.Rational.{ℚ, code_ℚ}
+use Rattle.rational.specs.Rational.{ℚ}
+use Rattle.rational.proofs.Stored.{code_ℚ}
 
 abbrev kind_number : RowKind → ℕ
 kind_number L = 0
@@ -23,6 +26,21 @@ kind_of-number E = refl
 
 abbrev code_kind : Coded RowKind
 code_kind = code_by ℕ coded_ℕ kind_number kind_of kind_of-number
+
+abbrev sense_number : Sense → ℕ
+sense_number Min = 0
+sense_number Max = 1
+
+abbrev sense_of : ℕ → Sense
+sense_of zero = Min
+sense_of (suc n) = Max
+
+pub sense_of-number : (sense : Sense) → sense_of (sense_number sense) ≡ sense
+sense_of-number Min = refl
+sense_of-number Max = refl
+
+abbrev code_sense : Coded Sense
+code_sense = code_by ℕ coded_ℕ sense_number sense_of sense_of-number
 
 abbrev code_name : Coded (List ℕ)
 code_name = coded_list coded_ℕ
@@ -45,7 +63,7 @@ code_column =
 
 abbrev pub code_deck : Coded Deck
 code_deck =
-    code_by (List ℕ × (List ℕ × (List Row × (List Column × ℚ))))
-    (coded× code_name (coded× code_name (coded× (coded_list code_row) (coded× (coded_list code_column) code_ℚ))))
-    (λ d. (d.name, (d.objective, (d.rows, (d.columns, d.constant)))))
-    (λ p. record { name = p.0; objective = p.1.0; rows = p.1.1.0; columns = p.1.1.1.0; constant = p.1.1.1.1 }) (λ _. refl)
+    code_by (List ℕ × (List ℕ × (Sense × (List Row × (List Column × ℚ)))))
+    (coded× code_name (coded× code_name (coded× code_sense (coded× (coded_list code_row) (coded× (coded_list code_column) code_ℚ)))))
+    (λ d. (d.name, (d.objective, (d.sense, (d.rows, (d.columns, d.constant))))))
+    (λ p. record { name = p.0; objective = p.1.0; sense = p.1.1.0; rows = p.1.1.1.0; columns = p.1.1.1.1.0; constant = p.1.1.1.1.1 }) (λ _. refl)

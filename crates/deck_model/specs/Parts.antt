@@ -6,7 +6,8 @@ use Rattle.std.specs.Map.{keys_of, values_of}
 use Rattle.deck_model.specs.declared.deck.RowData.{RowData}
 use Rattle.deck_model.specs.declared.deck.ColumnData.{ColumnData}
 use Rattle.deck_model.specs.declared.deck.Deck.TheInside.{Inside}
-use Rattle.lp_model.specs.Deck.{Row, Column, Interval, Deck, IsSparse, IsUncrossed}
+use Rattle.lp_model.specs.Deck.{Row, Column, Interval, Deck, IsUncrossed}
+use Rattle.rational.specs.Sparse.{IsSparse}
 use Rattle.lp_model.specs.Edit.{entry_count}
 
 -- a row, and a column, of its name and its data
@@ -23,6 +24,7 @@ abbrev pub deck_of : Inside → Deck
 deck_of a = record {
   name = a.name;
   objective = a.objective;
+  sense = a.sense;
   rows = map row_of a.rows.entries;
   columns = map column_of a.columns.entries;
   constant = a.constant;

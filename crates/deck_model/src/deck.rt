@@ -1,7 +1,7 @@
 //! Decks: their calls, and the rows and columns that they keep.
 ghost use Rattle.std.specs.Prelude.{◌≡◌, ◌≢◌, ◌<◌, ◌≤◌, ◌↔◌, false, IsTrue, IfOk, IsErrOf, OnOk, OnErr, None, if◌then◌else◌, length};
 ghost use Rattle.lp_model.specs.Deck.{row as row_at, column as column_at, IsDeck, IsUncrossed};
-ghost use Rattle.lp_model.specs.Edit.{new_deck, find_row, find_column, is_row_name, is_column_name, with_row, with_column, with_entry, with_cost, with_bounds, with_right, with_range, with_constant, has_entry, entry_count};
+ghost use Rattle.lp_model.specs.Edit.{new_deck, find_row, find_column, is_row_name, is_column_name, with_row, with_column, with_entry, with_cost, with_bounds, with_right, with_range, with_sense, with_constant, has_entry, entry_count};
 ghost use Rattle.rational.specs.Rational.{zero_ℚ, eq_ℚ};
 ghost use Rattle.deck_model.specs.End.{interval, ends_of};
 ghost use Rattle.deck_model.specs.Named.{HasNamedRows, HasNamedColumns};
@@ -11,7 +11,7 @@ use crate::fault::EditFault;
 use crate::name::Name;
 use exact_frac::Frac;
 use indexmap::IndexMap;
-use lp_model::RowKind;
+use lp_model::{RowKind, Sense};
 use no_memory::Memory;
 use sparse_cols::SparseCol;
 use std::alloc::Global;
@@ -40,14 +40,15 @@ struct ColumnData {
     upper: Option<Frac>,
 }
 
-/// A linear program with its names: to minimise a cost over columns with bounds, where each row's
-/// activity lies in an interval.
+/// A linear program with its names: to minimise or to maximise a cost over columns with bounds, where
+/// each row's activity lies in an interval.
 ///
 /// Rows and columns have the indices 0, 1, .. in the order in which they were added.
 #[derive(Drop)]
 pub struct Deck {
     name: Name,
     objective: Name,
+    sense: Sense,
     rows: IndexMap<Name, RowData>,
     columns: IndexMap<Name, ColumnData>,
     constant: Frac,
@@ -70,7 +71,7 @@ impl Model for Deck {
 }
 
 impl Deck {
-    /// A deck with these names, no row, no column and the constant 0. It takes no memory.
+    /// A deck with these names, no row, no column and the constant 0, to be minimised. It takes no memory.
     #[tactic(auto, using(exact_frac::specs::Constants::constants))]
     pub fn new(alloc: Global, name: Name, objective: Name) -> Deck
         ensures { result ≡ new_deck name objective }
@@ -78,6 +79,7 @@ impl Deck {
         Deck {
             name,
             objective,
+            sense: Sense::Min,
             rows: IndexMap::new(alloc),
             columns: IndexMap::new(alloc),
             constant: Frac::ZERO,
@@ -112,6 +114,20 @@ impl Deck {
         ensures { self.new ≡ record self.old { objective = name } }
     {
         self.objective = name;
+    }
+
+    /// Whether the least or the greatest objective is sought.
+    pub fn sense(&self) -> Sense
+        ensures { result ≡ self.now.sense }
+    {
+        self.sense
+    }
+
+    /// Sets whether the least or the greatest objective is sought.
+    pub fn set_sense(&mut self, sense: Sense)
+        ensures { self.new ≡ with_sense self.old sense }
+    {
+        self.sense = sense;
     }
 
     /// How many rows there are, the objective not counted.

@@ -37,8 +37,6 @@ mod fault;
 mod log;
 mod name;
 mod outcome;
-#[cfg(test)]
-mod tests;
 
 pub use deck::{Deck, MAX_COLUMNS, MAX_ROWS};
 pub use end::End;

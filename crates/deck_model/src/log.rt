@@ -1,6 +1,6 @@
 //! The log of a run.
 ghost use Rattle.std.specs.Prelude.{◌≡◌, [], ◌∷◌, ◌++◌, length, slice_get, OnOk, OnErr};
-ghost use Rattle.lp_model.specs.Run.{is_move, moves};
+ghost use Rattle.lp_model.specs.Log.{is_move, moves};
 
 use lp_model::Entry;
 use no_memory::Memory;
@@ -17,7 +17,7 @@ pub struct Log {
 impl Model for Log {
     ghost use Rattle.std.specs.Prelude.{◌≡◌, List};
     ghost use Rattle.lp_model.specs.declared.Entry.{Entry};
-    ghost use Rattle.lp_model.specs.Run.{moves};
+    ghost use Rattle.lp_model.specs.Log.{moves};
 
     ghost Value = { List Entry };
 

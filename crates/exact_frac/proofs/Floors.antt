@@ -4,7 +4,7 @@ use Rattle.std.specs.Int.{w128, cast_signed, cast_unsigned}
 use Rattle.std.proofs.lemmas.Int.{ints, to_z-of_z}
 use Rattle.std.proofs.Math.Nat.{div-add-mod, mod-lt, div-le_self, le-mul_of_pos_right}
 use mir.Val.{SFits}
-use Rattle.rational.specs.Ring.{ring_ℤ, ◌≐◌, ◌⊙◌≗◌⟹◌, ◌⊕◌, ◌⊖◌, ◌⊗◌, ⊝◌, 𝟙}
+use Rattle.rational.proofs.Ring.{ring_ℤ, ◌≐◌, ◌⊙◌≗◌⟹◌, ◌⊕◌, ◌⊖◌, ◌⊗◌, ⊝◌, 𝟙}
 use Rattle.exact_frac.specs.Parts.{signed}
 use Rattle.exact_frac.specs.Floor.{IsFloor}
 

@@ -5,11 +5,14 @@ use Rattle.std.proofs.Math.Nat.{mul_assoc, mul_comm, div-mul_cancel, div-le_self
 use Rattle.std.specs.Int.{◌∣◌, w128, cast_signed, cast_unsigned}
 use Rattle.std.proofs.lemmas.Int.{ints, to_z-of_z}
 use mir.Val.{SFits}
-use Rattle.rational.specs.Gcd.{gcd, IsCoprime, IsGcd-gcd, gcd_pos, coprime_after}
-use Rattle.rational.specs.Integer.{neg_ℤ-*ℤ}
-use Rattle.rational.specs.Rational.{ℚ, ratio, lowest_from, same_ℚ, cmp_ℚ, FitsWidth}
-use Rattle.rational.specs.RationalRing.Parts.{IsOver, over_ratio, equal_over}
-use Rattle.exact_frac.specs.Parts.{signed, AreLowest, Splits, numerator-ratio, denominator-ratio}
+use Rattle.rational.specs.Gcd.{gcd, IsCoprime}
+use Rattle.rational.proofs.Gcd.{IsGcd-gcd, gcd_pos, coprime_after}
+use Rattle.rational.proofs.Integer.{neg_ℤ-*ℤ}
+use Rattle.rational.specs.Rational.{ℚ, ratio, cmp_ℚ}
+use Rattle.rational.proofs.Ratio.{lowest_from, same_ℚ, numerator-ratio, denominator-ratio}
+use Rattle.rational.specs.Width.{FitsWidth}
+use Rattle.rational.proofs.RationalRing.Parts.{IsOver, over_ratio, equal_over}
+use Rattle.exact_frac.specs.Parts.{signed, AreLowest, Splits}
 use Rattle.exact_frac.proofs.Split.{nat_abs-signed, signed-nat_abs, bits_back}
 
 -- a fraction over parts in lowest terms has these parts

@@ -2,19 +2,20 @@
 use Rattle.std.proofs.Common.{◌≡◌, ◌≢◌, ℕ, zero, suc, ◌*◌, ◌/◌, ◌^◌, ◌<◌, ◌≤◌, pos, ◌*ℤ◌, neg_ℤ, nat_abs, Bool, true, false, not, Result, refl, sym, ◌∙◌, ap, ap₂, subst, arith}
 use mathlib.Core.Bool.{beq}
 use Rattle.std.proofs.Math.Nat.{mul-pos, div-mul_cancel}
-use Rattle.rational.specs.Gcd.{gcd, IsCoprime, coprime_after, gcd_pos}
-use Rattle.rational.specs.Rational.{ℚ, ratio, whole, zero_ℚ, neg_ℚ, ◌*ℚ◌, flipped, inverse, FitsWidth}
-use Rattle.rational.specs.Ring.{ring_ℤ, of_pos, ◌≐◌, ◌⊗◌, ⊝◌, 𝟘, 𝟙}
-use Rattle.rational.specs.RationalRing.{ring_ℚ, *ℚ_comm, *ℚ-one, whole-zero, whole-one}
-use Rattle.rational.specs.RationalRing.Parts.{IsOver, over_parts, over_ratio, over_same, over-*, over-neg, over-whole, equal_over}
+use Rattle.rational.specs.Gcd.{gcd, IsCoprime}
+use Rattle.rational.proofs.Gcd.{coprime_after, gcd_pos, gcd_left, gcd_right, coprime_comm, coprime_of_dvd, coprime-mul, quotient_divides}
+use Rattle.rational.specs.Rational.{ℚ, ratio, whole, zero_ℚ, neg_ℚ, ◌*ℚ◌, flipped, inverse}
+use Rattle.rational.specs.Width.{FitsWidth}
+use Rattle.rational.proofs.Ring.{ring_ℤ, of_pos, ◌≐◌, ◌⊗◌, ⊝◌, 𝟘, 𝟙}
+use Rattle.rational.proofs.RationalRing.{ring_ℚ, *ℚ_comm, *ℚ-one, whole-zero, whole-one}
+use Rattle.rational.proofs.RationalRing.Parts.{IsOver, over_parts, over_ratio, over_same, over-*, over-neg, over-whole, equal_over}
 use Rattle.exact_frac.specs.Parts.{signed, AreLowest, Splits}
 use Rattle.exact_frac.specs.Exact.{Exact}
 use Rattle.exact_frac.specs.declared.unfit.Unfit.{Unfit}
 use Rattle.exact_frac.specs.Product.{product_size, product_denom}
 use Rattle.exact_frac.proofs.Split.{nat_abs-signed}
 use Rattle.exact_frac.proofs.Lowest.{over_split, fits_split, numerator-over, denominator-over, signed-*ℤ, quotient_pos}
-use Rattle.exact_frac.proofs.Zero.{zero_from}
-use Rattle.exact_frac.proofs.Coprime.{gcd_left, gcd_right, coprime_comm, coprime_of_dvd, coprime-mul, quotient_divides}
+use Rattle.rational.proofs.FieldLaws.{zero_from_numerator}
 
 module _ (a b c d : ℕ) (some_b : 0 < b) (some_d : 0 < d) where
   first_pos : 0 < gcd a d
@@ -145,7 +146,7 @@ flipped-signed false (suc n) denom some = refl
 
 module _ (a : ℚ) (negative : Bool) (size denom : ℕ) (s : Splits a negative size denom) (some : a ≢ zero_ℚ) where
   size_pos : 0 < size
-  size_pos = from_apart (λ e. some (zero_from a (s.numerator ∙ ap (signed negative) e ∙ zero_signed negative)))
+  size_pos = from_apart (λ e. some (zero_from_numerator a (s.numerator ∙ ap (signed negative) e ∙ zero_signed negative)))
     where
       from_apart : size ≢ 0 → 0 < size
       from_apart n = omega arith

@@ -4,9 +4,9 @@ use Rattle.std.specs.Int.{◌∣◌}
 use Rattle.std.proofs.lemmas.Nat.{mul-mod_first}
 use Rattle.std.proofs.Math.Nat.{add-mod, mod-eq-sub-mod, zero-div, div-add-mod, div-mul_cancel, mul-add-div, mod-lt, mod-eq-zero_of_dvd, dvd_of_mod-eq-zero, mod-eq_of_lt, eq-one_of_dvd-one}
 use Rattle.rational.specs.Gcd.{gcd}
-use Rattle.rational.specs.Ring.{ring_ℤ, of_pos, ◌≐◌, ◌⊕◌, ◌⊗◌}
+use Rattle.rational.proofs.Ring.{ring_ℤ, of_pos, ◌≐◌, ◌⊕◌, ◌⊗◌}
+use Rattle.rational.proofs.Gcd.{gcd_right}
 use Rattle.exact_frac.proofs.Euclid.{gcd-rest}
-use Rattle.exact_frac.proofs.Coprime.{gcd_right}
 
 -- a product over a divisor, by the quotient and the remainder of its first factor
 pub scaled_quotient : (a by k : ℕ) → 0 < k → a / k * by + a % k * by / k ≡ a * by / k
@@ -62,7 +62,7 @@ pub gcd-one : (x : ℕ) → 1 ≡ gcd x 1
 gcd-one x = sym (eq-one_of_dvd-one (gcd_right x 1))
 
 -- a number less k has the same common divisors with k
-gcd-less : (s k : ℕ) → k ≤ s → gcd (s - k) k ≡ gcd s k
+pub gcd-less : (s k : ℕ) → k ≤ s → gcd (s - k) k ≡ gcd s k
 gcd-less s k h = sym (gcd-rest (s - k) k) ∙ ap (gcd k) (sym (mod-eq-sub-mod h)) ∙ gcd-rest s k
 
 gcd-rests : (x y k : ℕ) → gcd (x % k + y % k) k ≡ gcd (x + y) k

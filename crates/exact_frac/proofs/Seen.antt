@@ -1,7 +1,8 @@
 -- What a fraction's parts say of the number that it stands for, and the other way round.
 use Rattle.std.proofs.Common.{◌≡◌, ℕ, ℤ}
 use Rattle.rational.specs.Rational.{ratio}
-use Rattle.exact_frac.specs.Parts.{FitsLowest, numerator-ratio, denominator-ratio}
+use Rattle.rational.proofs.Ratio.{numerator-ratio, denominator-ratio}
+use Rattle.exact_frac.specs.Parts.{FitsLowest}
 
 pub numerator-seen : (p : ℤ) (q : ℕ) → FitsLowest p q → (ratio p q).numerator ≡ p
 numerator-seen p q h = numerator-ratio p q h.lowest

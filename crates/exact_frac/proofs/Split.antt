@@ -4,9 +4,10 @@ use Rattle.std.specs.Int.{w128, cast_signed, cast_unsigned}
 use Rattle.std.proofs.lemmas.Bool.Decides.{nat_tests}
 use Rattle.std.proofs.lemmas.Int.{ints, to_z-of_z, fits_signed_from_abs}
 use Rattle.rational.specs.Gcd.{gcd}
-use Rattle.rational.specs.Integer.{nat_abs-neg_ℤ}
-use Rattle.rational.specs.Rational.{ℚ, ratio, neg_ℚ, coprime_from_lowest, positive_from_lowest, lowest_from}
-use Rattle.exact_frac.specs.Parts.{FitsLowest, signed, AreLowest, Splits, numerator-ratio, denominator-ratio}
+use Rattle.rational.proofs.Integer.{nat_abs-neg_ℤ}
+use Rattle.rational.specs.Rational.{ℚ, ratio, neg_ℚ}
+use Rattle.rational.proofs.Ratio.{coprime_from_lowest, positive_from_lowest, lowest_from, numerator-ratio, denominator-ratio}
+use Rattle.exact_frac.specs.Parts.{FitsLowest, signed, AreLowest, Splits}
 
 pub nat_abs-signed : (negative : Bool) (size : ℕ) → nat_abs (signed negative size) ≡ size
 nat_abs-signed true size = nat_abs-neg_ℤ (pos size)

@@ -3,16 +3,16 @@ use Rattle.std.proofs.Common.{◌≡◌, ℕ, ◌+◌, ◌*◌, ◌/◌, ◌^◌
 use Rattle.std.specs.Int.{◌∣◌}
 use Rattle.std.proofs.lemmas.Nat.Gcd.{dvd_trans, dvd_refl}
 use Rattle.std.proofs.Math.Nat.{mul-pos, div-mul_cancel, dvd-add_iff_right, dvd-add_iff_left, dvd-mul_left_of_dvd, dvd-mul_right, mul-div_assoc, mul-le-mul_left, mul-le-mul_right, lt_of_mul-lt-mul_right, mul-lt-mul_of_pos_right, le_of_dvd}
-use Rattle.rational.specs.Gcd.{gcd, IsCoprime, coprime_after, gcd_pos, dvd_of_coprime}
-use Rattle.rational.specs.Rational.{ℚ, ◌+ℚ◌, FitsWidth}
-use Rattle.rational.specs.RationalRing.Parts.{IsOver, over_same, over-+}
-use Rattle.rational.specs.Ring.{ring_ℤ, of_pos, ◌≐◌, ◌⊙◌≗◌⟹◌, ◌⊕◌, ◌⊖◌, ◌⊗◌, ⊝◌, 𝟙}
+use Rattle.rational.specs.Gcd.{gcd, IsCoprime}
+use Rattle.rational.proofs.Gcd.{coprime_after, gcd_pos, dvd_of_coprime, gcd_left, gcd_right, coprime_comm, coprime_of_dvd, coprime-mul, quotient_divides, common_is_one}
+use Rattle.rational.specs.Rational.{ℚ, ◌+ℚ◌}
+use Rattle.rational.specs.Width.{FitsWidth}
+use Rattle.rational.proofs.RationalRing.Parts.{IsOver, over_same, over-+}
+use Rattle.rational.proofs.Ring.{ring_ℤ, of_pos, ◌≐◌, ◌⊙◌≗◌⟹◌, ◌⊕◌, ◌⊖◌, ◌⊗◌, ⊝◌, 𝟙}
 use Rattle.exact_frac.specs.Parts.{signed, Splits}
-use Rattle.exact_frac.specs.Floor.{IsFloor}
 use Rattle.exact_frac.proofs.Split.{nat_abs-signed}
 use Rattle.exact_frac.proofs.Lowest.{over_split, numerator-over, denominator-over, quotient_pos}
-use Rattle.exact_frac.proofs.Coprime.{gcd_left, gcd_right, coprime_comm, coprime_of_dvd, coprime-mul, quotient_divides, common_is_one}
-use Rattle.exact_frac.proofs.Combination.{coprime_combination, coprime_rest}
+use Rattle.exact_frac.proofs.Combination.{gcd-combination}
 
 -- two denominators over their greatest common divisor
 pub record OverCommon (a b g l r : ℕ) : Type 0 where
@@ -29,6 +29,17 @@ over_common a b g l r some_a some_b common left right = record {
   common = common;
   left = left;
   right = right;
+}
+
+-- the same for the denominators of two fractions
+pub over_parts_common : (u v : ℚ) (s w : Bool) (m n a b g l r : ℕ) → Splits u s m a → Splits v w n b
+    → g ≡ gcd u.denominator v.denominator → l ≡ u.denominator / g → r ≡ v.denominator / g → OverCommon a b g l r
+over_parts_common u v s w m n a b g l r left right common left_is right_is = record {
+  some_a = left.lowest.some;
+  some_b = right.lowest.some;
+  common = common ∙ ap₂ gcd left.denominator right.denominator;
+  left = left_is ∙ ap (λ k. k / g) left.denominator;
+  right = right_is ∙ ap (λ k. k / g) right.denominator;
 }
 
 module _ (a b g l r : ℕ) (o : OverCommon a b g l r) where
@@ -63,20 +74,13 @@ module _ (a b g l r : ℕ) (o : OverCommon a b g l r) where
   right_divides : r ∣ b
   right_divides = subst (λ n. r ∣ n) right_is (dvd-mul_right r g)
 
--- the numerators left above the floors, over the least common denominator, and what these two share
+-- numbers that leave the same rests by the denominators as the numerators do, over the least common denominator, and what these two share
 pub record SumTerms (a b g l r x y h : ℕ) : Type 0 where
   pub over : OverCommon a b g l r
-  pub x_below : x < a
-  pub y_below : y < b
   pub shared : h ≡ gcd (x * r + y * l) g
 
-pub sum_terms : (a b g l r x y h : ℕ) → OverCommon a b g l r → x < a → y < b → h ≡ gcd (x * r + y * l) g → SumTerms a b g l r x y h
-sum_terms a b g l r x y h over x_below y_below shared = record {
-  over = over;
-  x_below = x_below;
-  y_below = y_below;
-  shared = shared;
-}
+pub sum_terms : (a b g l r x y h : ℕ) → OverCommon a b g l r → h ≡ gcd (x * r + y * l) g → SumTerms a b g l r x y h
+sum_terms a b g l r x y h over shared = record { over = over; shared = shared }
 
 module _ (a b g l r x y h : ℕ) (t : SumTerms a b g l r x y h) where
   pub shared_pos : 0 < h
@@ -121,10 +125,10 @@ module _ (a b g l r x y h : ℕ) (t : SumTerms a b g l r x y h) where
         of_pos (ring_ℤ 5 (λ a b g l r. ⊝ l ⊙ r ⊗ g ≗ b ⟹ r ⊙ l ⊗ g ≗ a ⟹ b ⊗ l ≐ a ⊗ r) tt (pos a) (pos b) (pos g) (pos l) (pos r)
         (ap pos (right_is a b g l r t.over)) (ap pos (left_is a b g l r t.over)))
 
-    pub part_below : (x * r + y * l) / h < 2 * d
-    part_below =
-        let first : x * r < a * r = mul-lt-mul_of_pos_right t.x_below (right_pos a b g l r t.over) in
-        let second : y * l ≤ b * l = mul-le-mul_right l (below y b t.y_below) in
+    pub part_below : x < a → y < b → (x * r + y * l) / h < 2 * d
+    part_below x_below y_below =
+        let first : x * r < a * r = mul-lt-mul_of_pos_right x_below (right_pos a b g l r t.over) in
+        let second : y * l ≤ b * l = mul-le-mul_right l (below y b y_below) in
         let whole : (x * r + y * l) / h * h ≡ x * r + y * l = div-mul_cancel h shared_divides in
         let same = crosswise in
         let bottom = denom-shared in
@@ -152,7 +156,7 @@ module _ (a b g l r x y h : ℕ) (t : SumTerms a b g l r x y h) where
         let apart : IsCoprime y e = coprime_of_dvd y b y e coprime (dvd_refl y) (dvd_trans e in_r (right_divides a b g l r t.over)) in
         common_is_one l r e (left_coprime a b g l r t.over) (dvd_of_coprime e y l (coprime_comm y e apart) in_product) in_r
 
-    denom_factors : d ≡ l * (g / h) * r
+    pub denom_factors : d ≡ l * (g / h) * r
     denom_factors = d_is ∙ ap (λ n. n * r) (ap (λ n. n / h) (sym (left_is a b g l r t.over)) ∙ mul-div_assoc h l shared_divides_g)
 
     part_coprime : IsCoprime x a → IsCoprime y b → IsCoprime ((x * r + y * l) / h) d
@@ -179,18 +183,18 @@ module _ (a b g l r x y h : ℕ) (t : SumTerms a b g l r x y h) where
         (ap pos whole) (ap pos denom-shared) (ap pos (right_is a b g l r t.over)) (ap pos (left_is a b g l r t.over)))
 
     module _ (u v : ℚ) (s w : Bool) (m n : ℕ) (fa fb : ℤ) (left : Splits u s m a) (right : Splits v w n b)
-        (floor_a : IsFloor (signed s m) a fa x) (floor_b : IsFloor (signed w n) b fb y) (p : ℕ) (p_is : p ≡ (x * r + y * l) / h) where
+        (whole_a : signed s m ≡ fa *ℤ pos a +ℤ pos x) (whole_b : signed w n ≡ fb *ℤ pos b +ℤ pos y) (p : ℕ) (p_is : p ≡ (x * r + y * l) / h) where
       abbrev top : ℤ
       top = (fa +ℤ fb) *ℤ pos d +ℤ pos p
 
       x_coprime : IsCoprime x a
-      x_coprime = coprime_rest a x fa (ap (λ z. gcd (nat_abs z) a) (sym floor_a.whole) ∙ ap (λ k. gcd k a) (nat_abs-signed s m) ∙ left.lowest.coprime)
+      x_coprime = sym (gcd-combination a x fa) ∙ (ap (λ z. gcd (nat_abs z) a) (sym whole_a) ∙ ap (λ k. gcd k a) (nat_abs-signed s m) ∙ left.lowest.coprime)
 
       y_coprime : IsCoprime y b
-      y_coprime = coprime_rest b y fb (ap (λ z. gcd (nat_abs z) b) (sym floor_b.whole) ∙ ap (λ k. gcd k b) (nat_abs-signed w n) ∙ right.lowest.coprime)
+      y_coprime = sym (gcd-combination b y fb) ∙ (ap (λ z. gcd (nat_abs z) b) (sym whole_b) ∙ ap (λ k. gcd k b) (nat_abs-signed w n) ∙ right.lowest.coprime)
 
       top_coprime : IsCoprime (nat_abs top) d
-      top_coprime = coprime_combination d p (fa +ℤ fb) (ap (λ k. gcd k d) p_is ∙ part_coprime x_coprime y_coprime)
+      top_coprime = gcd-combination d p (fa +ℤ fb) ∙ (ap (λ k. gcd k d) p_is ∙ part_coprime x_coprime y_coprime)
 
       over_sum : IsOver (u +ℚ v) top d
       over_sum =
@@ -200,7 +204,7 @@ module _ (a b g l r x y h : ℕ) (t : SumTerms a b g l r x y h) where
           b ⊗ d ⊙ P ≗ f ⊗ a ⊕ x ⟹ a ⊗ d ⊙ Q ≗ k ⊗ b ⊕ y ⟹ 𝟙 ⊙ (x ⊗ b ⊕ y ⊗ a) ⊗ d ≗ p ⊗ (a ⊗ b)
           ⟹ (P ⊗ b ⊕ Q ⊗ a) ⊗ d ≐ ((f ⊕ k) ⊗ d ⊕ p) ⊗ (a ⊗ b)) tt
           (signed s m) (signed w n) (pos a) (pos b) (pos d) fa fb (pos x) (pos y) (pos p)
-          floor_a.whole floor_b.whole (ap pos (part_cross p p_is)))
+          whole_a whole_b (ap pos (part_cross p p_is)))
 
       pub unfit_denom : ¬ (d < 2 ^ 127) → ¬ FitsWidth 127 (u +ℚ v)
       unfit_denom wide fits =

@@ -4,9 +4,12 @@ use Rattle.std.specs.Int.{w128, cast_signed, cast_unsigned}
 use Rattle.std.proofs.lemmas.Int.{to_z-of_z, fits_signed_mul}
 use Rattle.std.proofs.lemmas.Bool.{leb-true}
 use mir.Val.{SFits}
-use Rattle.rational.specs.Rational.{ℚ, ratio, whole, ◌+ℚ◌, ◌*ℚ◌, FitsWidth, lowest_from, is_lowest}
-use Rattle.rational.specs.RationalRing.{whole-+ℚ, whole-*ℚ}
-use Rattle.exact_frac.specs.Parts.{FitsLowest, numerator-ratio, denominator-ratio}
+use Rattle.rational.specs.Rational.{ℚ, ratio, whole, ◌+ℚ◌, ◌*ℚ◌}
+use Rattle.rational.specs.Width.{FitsWidth}
+use Rattle.rational.proofs.Ratio.{lowest_from, numerator-ratio, denominator-ratio}
+use Rattle.rational.specs.Gcd.{is_lowest}
+use Rattle.rational.proofs.RationalRing.{whole-+ℚ, whole-*ℚ}
+use Rattle.exact_frac.specs.Parts.{FitsLowest}
 use Rattle.exact_frac.proofs.Split.{bits_back}
 use Rattle.exact_frac.proofs.Scaled.{gcd-one}
 use Rattle.exact_frac.proofs.Floors.{from_wide}

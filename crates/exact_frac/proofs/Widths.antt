@@ -1,11 +1,13 @@
 -- Whether a fraction fits a width, by shifts of its parts.
-use Rattle.std.proofs.Common.{◌≡◌, ℕ, ◌*◌, ◌/◌, ◌^◌, ◌<◌, ◌≤◌, ℤ, nat_abs, IsTrue, nat_eq, ◌↔◌, sym, ◌∙◌, ap, subst, arith}
+use Rattle.std.proofs.Common.{◌≡◌, ℕ, ◌*◌, ◌/◌, ◌^◌, ◌<◌, ℤ, nat_abs, IsTrue, nat_eq, ◌↔◌, sym, ◌∙◌, ap, subst, arith}
 use Rattle.std.specs.Int.{w128, cast_signed, cast_unsigned}
 use Rattle.std.proofs.lemmas.Bool.{eqb-true, eq-eqb}
 use Rattle.std.proofs.lemmas.Nat.{pow_pos}
-use Rattle.std.proofs.Math.Nat.{div-lt_iff_lt-mul, div-eq_of_lt, pow-le-pow_right}
-use Rattle.rational.specs.Rational.{ℚ, ratio, FitsWidth}
-use Rattle.exact_frac.specs.Parts.{FitsLowest, numerator-ratio, denominator-ratio}
+use Rattle.std.proofs.Math.Nat.{div-lt_iff_lt-mul, div-eq_of_lt}
+use Rattle.rational.specs.Rational.{ℚ, ratio}
+use Rattle.rational.specs.Width.{FitsWidth}
+use Rattle.rational.proofs.Ratio.{numerator-ratio, denominator-ratio}
+use Rattle.exact_frac.specs.Parts.{FitsLowest}
 use Rattle.exact_frac.proofs.Split.{bits_back}
 
 -- a number is below 2^w exactly where its shift by w is 0
@@ -33,9 +35,3 @@ module _ (p : ℤ) (q : ℕ) (a : ℚ) (fits : FitsLowest p q) (view : ratio p q
     },
     λ f. eq-eqb (q / 2 ^ w) 0 (div-eq_of_lt (subst (λ n. n < 2 ^ w) bottom f.denominator_below)),
   )
-
--- what fits a smaller width fits 127
-pub fits_wider : (w : ℕ) (a : ℚ) → w ≤ 127 → FitsWidth w a → FitsWidth 127 a
-fits_wider w a h f =
-    let more : 2 ^ w ≤ 2 ^ 127 = pow-le-pow_right (omega arith) h in
-    record { numerator_below = omega (arith, f.numerator_below); denominator_below = omega (arith, f.denominator_below) }

@@ -2,7 +2,8 @@
 -- `using(exact_frac::specs::Constants::constants)`.
 use Rattle.std.specs.Prelude.{◌≡◌, pos}
 use Rattle.std.proofs.Common.{refl, lit<}
-use Rattle.rational.specs.Rational.{ratio, is_lowest, zero_ℚ, one_ℚ}
+use Rattle.rational.specs.Rational.{ratio, zero_ℚ, one_ℚ}
+use Rattle.rational.specs.Gcd.{is_lowest}
 use Rattle.exact_frac.specs.Parts.{FitsLowest}
 
 pub zero_fits : FitsLowest (pos 0) 1

@@ -1,6 +1,7 @@
 -- What an operation of an arithmetic answers.
 use Rattle.std.specs.Prelude.{◌≡◌, ℕ, Result, MatchResult}
-use Rattle.rational.specs.Rational.{ℚ, FitsWidth}
+use Rattle.rational.specs.Rational.{ℚ}
+use Rattle.rational.specs.Width.{FitsWidth}
 use Rattle.exact_frac.specs.declared.unfit.Unfit.{Unfit}
 
 -- the exact value, where it fits the width, and `Unfit` exactly where it does not

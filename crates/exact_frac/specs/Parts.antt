@@ -1,9 +1,8 @@
 -- The parts of a fraction within 128 bits.
 use Rattle.std.specs.Prelude.{◌≡◌, ℕ, ◌^◌, ◌<◌, ◌≤◌, ℤ, pos, neg_ℤ, nat_abs, Bool, T, Option, MatchOption, if◌then◌else◌}
 use Rattle.std.specs.Int.{int_signum}
-use Rattle.std.proofs.Common.{ap}
-use Rattle.rational.specs.Gcd.{IsCoprime}
-use Rattle.rational.specs.Rational.{ℚ, ratio, is_lowest, ratio-parts}
+use Rattle.rational.specs.Gcd.{IsCoprime, is_lowest}
+use Rattle.rational.specs.Rational.{ℚ}
 
 -- parts in lowest terms, the numerator's size and the denominator below 2^127
 pub record FitsLowest (p : ℤ) (q : ℕ) : Type 0 where
@@ -35,13 +34,3 @@ pub record Splits (a : ℚ) (negative : Bool) (size denom : ℕ) : Type 0 where
 -- the sign of the numerator: -1, 0 or 1
 abbrev pub sign_of : ℚ → ℤ
 sign_of a = int_signum a.numerator
-
-abbrev pair : (p : ℤ) (q : ℕ) → T (is_lowest p q) → ℚ
-pair p q t = record { numerator = p; denominator = q; lowest = t }
-
--- parts in lowest terms are those of their ratio
-pub numerator-ratio : (p : ℤ) (q : ℕ) → T (is_lowest p q) → (ratio p q).numerator ≡ p
-numerator-ratio p q t = ap (λ (a : ℚ). a.numerator) (ratio-parts (pair p q t))
-
-pub denominator-ratio : (p : ℤ) (q : ℕ) → T (is_lowest p q) → (ratio p q).denominator ≡ q
-denominator-ratio p q t = ap (λ (a : ℚ). a.denominator) (ratio-parts (pair p q t))

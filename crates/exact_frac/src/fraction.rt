@@ -1,6 +1,7 @@
 // The type `Frac` and its methods.
 ghost use Rattle.std.specs.Prelude.{◌≡◌, ◌^◌, ◌<◌, ◌≤◌, pos, ◌<ℤ◌, nat_abs, unsigned_abs, IsTrue, ◌↔◌, FitsSigned, neg_ℤ};
-ghost use Rattle.rational.specs.Rational.{ratio, neg_ℚ, zero_ℚ, one_ℚ, FitsWidth};
+ghost use Rattle.rational.specs.Rational.{ratio, neg_ℚ, zero_ℚ, one_ℚ};
+ghost use Rattle.rational.specs.Width.{FitsWidth};
 ghost use Rattle.exact_frac.specs.Exact.{Exact};
 ghost use Rattle.exact_frac.specs.Parts.{sign_of};
 
@@ -28,8 +29,10 @@ pub struct Frac {
 }
 
 impl Model for Frac {
-    ghost use Rattle.rational.specs.Rational.{ℚ, code_ℚ, ratio};
-    ghost use Rattle.exact_frac.specs.Parts.{FitsLowest, numerator-ratio, denominator-ratio};
+    ghost use Rattle.rational.specs.Rational.{ℚ, ratio};
+    ghost use Rattle.rational.proofs.Stored.{code_ℚ};
+    ghost use Rattle.rational.proofs.Ratio.{numerator-ratio, denominator-ratio};
+    ghost use Rattle.exact_frac.specs.Parts.{FitsLowest};
     ghost use Rattle.std.proofs.Common.{ap₂};
 
     ghost Value = { ℚ };
@@ -135,7 +138,7 @@ impl Frac {
 
 impl Ord for Frac {
     ghost use Rattle.rational.specs.Rational.{cmp_ℚ};
-    ghost use Rattle.exact_frac.specs.Order.{cmp_ℚ_total, eq_by_parts};
+    ghost use Rattle.rational.proofs.OrderLaws.{cmp_ℚ_total, eq_by_parts};
     ghost use Rattle.std.proofs.Common.{refl};
 
     ghost cmp = { cmp_ℚ };
@@ -156,7 +159,7 @@ impl PartialOrd for Frac {
     ghost use Rattle.std.specs.Cmp.{partial_order_from_agreeing_total};
     ghost use Rattle.std.proofs.Common.{refl};
     ghost use Rattle.rational.specs.Rational.{cmp_ℚ};
-    ghost use Rattle.exact_frac.specs.Order.{cmp_ℚ_total, eq_by_parts};
+    ghost use Rattle.rational.proofs.OrderLaws.{cmp_ℚ_total, eq_by_parts};
 
     ghost partial_cmp = { as_partial_cmp cmp_ℚ };
 

@@ -15,6 +15,7 @@ pub struct Full127 {
 impl Full127 {
     /// The arithmetic with both counts 0.
     pub fn new() -> Full127
+        ensures width { ⟦<Full127 as Arith>⟧.width result ≡ 127 }
         ensures unfit { ⟦<Full127 as Arith>⟧.unfit_count result ≡ 0 }
         ensures work { ⟦<Full127 as Arith>⟧.work_count result ≡ 0 }
     {

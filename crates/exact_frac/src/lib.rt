@@ -14,10 +14,11 @@
 //! - **Limits.** No call takes memory, and no integer is wider than 128 bits. Where all parts fit 64
 //!   bits no 128-bit division is made. The constants [`Frac::ZERO`] and [`Frac::ONE`] owe the type's
 //!   invariant at each use: name `exact_frac::specs::Constants::constants` in `using(..)` there.
-//! - **Sources.** Knuth, *The Art of Computer Programming*, volume 2, section 4.5.1, for sums and
-//!   products that divide by common divisors before they multiply; Euclid's algorithm for these and,
-//!   as a continued fraction, for the order. Sums keep floors apart from what is left above them, since
-//!   the products of whole numerators may be too large where the sum is not.
+//! - **Sources.** Knuth, *The Art of Computer Programming*, volume 2: section 4.5.2, algorithm B, for the
+//!   greatest common divisor by halving and subtraction; section 4.5.1 for sums and products that divide
+//!   by common divisors before they multiply; section 4.3.1 for products in words. Sums multiply each
+//!   numerator by what the other's denominator does not share. Where such a product is 2^127 or more
+//!   they add floors apart from what is left above them, since the sum may still fit.
 //! - **Stands on** the crate `rational`, whose fractions and laws it cites.
 #![tactic(auto)]
 
@@ -29,8 +30,6 @@ mod full;
 mod list;
 mod magnitude;
 mod narrow;
-#[cfg(test)]
-mod tests;
 mod unfit;
 
 pub use arithmetic::Arith;

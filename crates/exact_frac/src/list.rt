@@ -12,7 +12,8 @@ pub struct Fracs {
 
 impl Model for Fracs {
     ghost use Rattle.std.specs.Prelude.{List};
-    ghost use Rattle.rational.specs.Rational.{ℚ, code_ℚ};
+    ghost use Rattle.rational.specs.Rational.{ℚ};
+    ghost use Rattle.rational.proofs.Stored.{code_ℚ};
     ghost use Rattle.std.specs.Coded.{coded_list};
 
     ghost Value = { List ℚ };

@@ -1,4 +1,4 @@
-//! Fractions as texts, and texts as fractions.
+//! Fractions as texts.
 //!
 //! A fraction is written as its numerator in lowest terms, with a minus sign before it where it is below 0, and after a
 //! stroke its denominator, where that is not 1: `7`, `-3/2`, `0`. No number begins with a zero, but 0 itself.
@@ -6,11 +6,10 @@
 //! # Contract
 //!
 //! [`text`] answers this text, which `lp_text` defines as `fraction_text`, and [`append`] puts it at the end of a list of
-//! bytes. Both refuse only for want of memory; `append` then leaves the list as it was. [`field`] is that of `number_fields`: the
-//! fraction that a number field of a card spells, or its fault.
+//! bytes. Both refuse only for want of memory; `append` then leaves the list as it was.
 //!
-//! The crate stands on `exact_frac`, on `number_fields`, on `lp_text` for the definition of the text, on `itoa`, which prints integers of up
-//! to 128 bits, and on `no_memory` for the refusal.
+//! The crate stands on `exact_frac`, on `lp_text` for the definition of the text, on `itoa`, which prints integers of up to 128
+//! bits, and on `no_memory` for the refusal.
 #![tactic(auto)]
 
 ghost use Rattle.std.specs.Prelude.{◌≡◌, ◌++◌, IfOk, OnOk, OnErr};
@@ -19,7 +18,6 @@ ghost use Rattle.lp_text.specs.Fraction.{fraction_text};
 use exact_frac::Frac;
 use itoa::Buffer;
 use no_memory::Memory;
-pub use number_fields::{FieldFault, field};
 use std::alloc::Global;
 
 /// The text of a fraction.
@@ -58,27 +56,4 @@ pub fn append(bytes: &mut Vec<u8>, value: Frac) -> Result<(), Memory>
     bytes.push(b'/').unwrap();
     bytes.extend_from_slice(denominator).unwrap();
     Ok(())
-}
-
-#[cfg(test)]
-mod tests {
-    use super::*;
-    use std::test::Fail;
-
-    #[test]
-    fn fractions_in_lowest_terms(rt: HostRuntime) -> Result<(), Fail> {
-        let most = i128::MAX;
-        for (numer, denom, want) in [
-            (0, 5, "0"),
-            (-12, 4, "-3"),
-            (7165, 2, "7165/2"),
-            (-6, 4, "-3/2"),
-            (1, most, "1/170141183460469231731687303715884105727"),
-            (-most, 2, "-170141183460469231731687303715884105727/2"),
-        ] {
-            let bytes = text(rt.alloc(), Frac::of(numer, denom))?;
-            assert_eq!(rt; bytes.as_slice(), want.as_bytes());
-        }
-        Ok(())
-    }
 }

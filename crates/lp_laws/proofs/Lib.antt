@@ -1,4 +1,5 @@
 pub mod Sums
-pub mod Weak
-pub mod Gap
-pub mod Endless
+pub mod Senses
+pub mod WeakDuality
+pub mod FarkasGap
+pub mod AlongRays

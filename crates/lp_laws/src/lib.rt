@@ -1,19 +1,38 @@
 //! The general laws of linear programs: what the lists that an answer carries prove of a deck.
 //!
-//! They hold of every deck, with all kinds of rows, ranges and bounds, and are stated in the terms
-//! of `lp_model` alone:
+//! They hold of every deck, with both senses and all kinds of rows, ranges and bounds, and are stated in
+//! the terms of `lp_model` alone. Each is the contract of a function that does nothing:
 //!
-//! - `Weak`: a feasible point with prices that prove it is optimal (`weak`).
-//! - `Gap`: a deck that has a Farkas row has no feasible point (`gap`).
-//! - `Endless`: a deck that has a feasible point with a ray has, for each number, a feasible point
-//!   whose objective is below it (`endless`).
+//! - [`weak`]: a feasible point with prices that prove it is optimal (weak duality).
+//! - [`gap`]: a deck that has a Farkas row has no feasible point.
+//! - [`endless`]: a deck that has a feasible point with a ray has, for each number, a feasible point
+//!   whose objective is better than it.
 //!
-//! None asks how its list was found, so whoever has a deck and a list may check an answer.
+//! None asks how its list was found, so whoever has a deck and a list may check an answer. That each
+//! deck has one of the three lists is a law of its run, in `bland_laws`.
 //!
-//! What is unique is proved in `lp_model`: a regular state has one list of prices, one of basic
-//! values and one of each column's entries (`one_prices`, `one_values`, `one_column`), at most one
-//! next entry, and none where the run ends (`one_next`, `no_next_at_end`). So from a state that has
-//! a table, two logs of one length are the same (`one_log`).
-//!
-//! The crate has no code. It stands on `rational` and `lp_model`.
+//! It stands on `rational` and `lp_model`.
 #![tactic(auto)]
+
+ghost use Rattle.std.specs.Prelude.{List};
+ghost use Rattle.lp_model.specs.Certificate.{Farkas, Proves, Ray};
+ghost use Rattle.lp_model.specs.Deck.{Deck, IsFeasible, IsOptimal, in_sense, objective};
+ghost use Rattle.rational.specs.Rational.{ℚ, ◌<ℚ◌};
+
+/// Prices that prove a point leave no feasible point with a better objective.
+#[tactic(auto, using(crate::proofs::WeakDuality::weak))]
+pub fn weak()
+    ensures { (d : Deck) (x y : List ℚ) → Proves d x y → IsOptimal d x }
+{}
+
+/// A Farkas row leaves no feasible point.
+#[tactic(auto, using(crate::proofs::FarkasGap::gap))]
+pub fn gap()
+    ensures { (d : Deck) (y : List ℚ) → Farkas d y → (x : List ℚ) → IsFeasible d x → ⊥ }
+{}
+
+/// Along a ray the objective gets better than any number, as the sense counts.
+#[tactic(auto, using(crate::proofs::AlongRays::endless))]
+pub fn endless()
+    ensures { (d : Deck) (x r : List ℚ) → Ray d x r → (v : ℚ) → (x' : List ℚ) × IsFeasible d x' × (in_sense d.sense (objective d x') <ℚ v) }
+{}

@@ -1,30 +1,29 @@
 -- From what a solve answers, and the line that refuses, to how a call of the program ends.
-use Rattle.std.proofs.Common.{◌≡◌, ℕ, ◌⊎◌, List, Option, Some, None, Err, refl, sym, ◌∙◌, ap, subst, inl, inr}
+use Rattle.std.proofs.Common.{◌≡◌, ◌≢◌, ℕ, ◌⊎◌, List, Option, Some, None, Err, refl, sym, ◌∙◌, ap, subst, inl, inr}
 use Rattle.std.specs.Prelude.{IfSome, IsErrOf, MatchOption}
 use Rattle.lp_model.specs.Deck.{Deck}
-use Rattle.lp_model.specs.Instance.{instance_of}
-use Rattle.lp_model.specs.Listing.{DeckFits, DeckMeetsUnfit}
-use Rattle.lp_model.specs.Run.{IsSpent}
-use Rattle.lp_model.specs.Simple.{IsSimple}
+use Rattle.lp_run.specs.Instance.{instance_of}
+use Rattle.simple_laws.specs.Stands.{MeetsUnfit}
+use Rattle.lp_run.specs.Run.{IsSpent}
+use Rattle.lp_run.specs.Simple.{IsSimple}
 use Rattle.simple_laws.specs.Stands.{IsEndless}
 use Rattle.simple_laws.proofs.Complete.{not_endless, not_spent, not_unfit}
-use Rattle.lp_text.specs.Cards.{columns, not_ascii}
 use Rattle.lp_text.specs.Refusals.{later_line}
-use Rattle.mps_model.specs.DeckOf.{DeckFault as Fault, HasFault, Reading, crossed_bounds, has_fault, in_line, is_deck, no_end, no_objective, reading_of}
-use Rattle.mps_model.specs.DeckSoFar.{bound, in_card, integer, limit, number, repeated, row_type, scattered, section, unknown_column, unknown_row}
-use Rattle.mps_reader.specs.declared.faults.DeckFault.TheVariants as fault
+use Rattle.mps_model.specs.DeckOf.{HasFault, Reading, crossed_bounds, has_fault, in_line, is_deck, no_end, no_objective, reading_of, TextFault}
+use Rattle.mps_reader.specs.declared.faults.DeckFault.TheVariants as deck
 use Rattle.mps_reader.specs.declared.faults.DeckFault.{DeckFault}
-use Rattle.mps_reader.specs.Refusals.{counted, text_fault}
+use Rattle.mps_reader.specs.Faults.{text_fault}
 use Rattle.lp_main.specs.FaultLines.{fault_line, reader_line}
+use Rattle.io_ends.specs.Count.{Rose}
 use Rattle.lp_text.specs.Words.{IsServed}
 use Rattle.lp_main.specs.declared.refusal.Refusal.{Refusal}
 use Rattle.lp_main.specs.declared.refusal.Refusal.TheVariants as refusal
 use Rattle.lp_main.specs.declared.status.Status.{Status}
 use Rattle.lp_main.specs.declared.status.Status.TheVariants as status
-use Rattle.lp_main.specs.Ends.{End, LeavesBy, SaysBy, status_of_end}
+use Rattle.lp_main.specs.Ends.{End, FailsBy, LeavesBy, ReadsBy, SaysBy, WritesBy, status_of_end}
 use Rattle.lp_main.specs.Refusal.{line_of, status_of}
 use Rattle.lp_main.specs.Says.{Says}
-use Rattle.lp_main.specs.Serves.{Answers, AnswersDeck, HasOptimum, IsFirstFault, IsLater, IsOverBudget, IsOverflow, IsUnservedDeck, Reports, budget}
+use Rattle.lp_main.specs.Serves.{Answers, BeginsReport, IsCutOff, AnswersDeck, HasOptimum, IsFirstFault, IsLater, IsOverBudget, IsOverflow, IsUnservedDeck, IsOrMemory, Reports, budget}
 use Rattle.lp_main.specs.Solves.{IsCause}
 
 -- what was said is the refusal, or want of memory
@@ -67,6 +66,29 @@ ended_refused w words text left old new r result e e' n n' served cause (said, i
 ended_refused w words text left old new r result e e' n n' served cause (said, inr is, status, says) =
     (Err refusal.Memory, status ∙ ap status_of is, inl (served, memory_in_place w text left old new r cause), subst (λ r. Says e e' n n' (line_of r)) is says)
 
+-- ── which end failed ──
+
+-- what was said has the refusal's status, or that of want of memory
+pub said_status : (r : Refusal) (result : Status) (e e' : Option (List ℕ)) (n n' : ℕ) → Said r result e e' n n' → IsOrMemory result (status_of r)
+said_status r result e e' n n' (said, inl is, status, says) = inl (status ∙ ap status_of is)
+said_status r result e e' n n' (said, inr is, status, says) = inr (status ∙ ap status_of is)
+
+-- another refusal than that of a failure leaves the count, and has another status
+pub not_failed : (failure s s' : Status) (Cause : Type 0) (count count' : ℕ) → s' ≢ failure → status.Memory ≢ failure → count' ≡ count → IsOrMemory s s' → FailsBy failure Cause count count' s
+not_failed failure s s' Cause count count' other no_memory stays (inl is) = inl (stays, λ e. other (sym is ∙ e))
+not_failed failure s s' Cause count count' other no_memory stays (inr is) = inl (stays, λ e. no_memory (sym is ∙ e))
+
+module _ (w : ℕ) (text left old new : Option (List ℕ)) (s : Status) (count count' : ℕ) where
+  pub reads_by : (r : Refusal) → IsCause w text left old new r → (IsErrOf {T = Unit {0}} (Err r) refusal.Read → Rose count count') → (¬ IsErrOf {T = Unit {0}} (Err r) refusal.Read → count' ≡ count)
+      → IsOrMemory s (status_of r) → ReadsBy text left count count' s
+  reads_by refusal.Read cause rose stays is = inr (rose refl, cause.0, is)
+  reads_by r cause rose stays is = not_failed status.ReadFault s (status_of r) (IfSome text (IsCutOff left)) count count' (λ e. cc) (λ e. cc) (stays (λ e. cc)) is
+
+  pub writes_by : (r : Refusal) → IsCause w text left old new r → (IsErrOf {T = Unit {0}} (Err r) refusal.Write → Rose count count') → (¬ IsErrOf {T = Unit {0}} (Err r) refusal.Write → count' ≡ count)
+      → IsOrMemory s (status_of r) → WritesBy text old new count count' s
+  writes_by refusal.Write cause rose stays is = inr (rose refl, cause, is)
+  writes_by r cause rose stays is = not_failed status.WriteFault s (status_of r) (IfSome text (BeginsReport old new)) count count' (λ e. cc) (λ e. cc) (stays (λ e. cc)) is
+
 -- ── the status of each text ──
 
 same_deck : (d d' : Deck) (k line : ℕ) → is_deck d k ≡ is_deck d' line → d ≡ d'
@@ -75,7 +97,7 @@ same_deck d d' k line e = cc
 same_line : (d d' : Deck) (k line : ℕ) → is_deck d k ≡ is_deck d' line → k ≡ line
 same_line d d' k line e = cc
 
-same_fault : (f f' : Fault) → has_fault f ≡ has_fault f' → f ≡ f'
+same_fault : (f f' : TextFault) → has_fault f ≡ has_fault f' → f ≡ f'
 same_fault f f' e = cc
 
 -- of three ends of a deck's run no two come together
@@ -85,29 +107,14 @@ apart d simple endless (log, x, y, v, outcome, within) = not_endless d simple lo
 over : (d : Deck) → IsSimple d → IsSpent (instance_of d) budget → HasOptimum d → ⊥
 over d simple spent (log, x, y, v, outcome, within) = not_spent d simple log x y v outcome budget within spent
 
-meets_no_unfit : (w : ℕ) (d : Deck) → DeckMeetsUnfit w budget d → DeckFits w d → ⊥
-meets_no_unfit w d (inl start) fits = start fits.0
-meets_no_unfit w d (inr run) fits = not_unfit (instance_of d) w budget fits.1 run
-
 -- the line of what the reader answers is that of the fault of a text that it is
-named : (f : DeckFault) (P : Fault → Type 0) → MatchOption (text_fault f) ⊥ P → (first : Fault) × P first × (reader_line f ≡ fault_line first)
-named fault.Read P h = absurd h
-named fault.Memory P h = absurd h
-named (fault.Columns n c) P h = (in_line n (in_card (columns c)), h, refl)
-named (fault.NotAscii n) P h = (in_line n (in_card not_ascii), h, refl)
-named (fault.Section n) P h = (in_line n section, h, refl)
-named (fault.RowType n) P h = (in_line n row_type, h, refl)
-named (fault.UnknownRow n) P h = (in_line n unknown_row, h, refl)
-named (fault.UnknownColumn n) P h = (in_line n unknown_column, h, refl)
-named (fault.Repeated n) P h = (in_line n repeated, h, refl)
-named (fault.Scattered n) P h = (in_line n scattered, h, refl)
-named (fault.Number n) P h = (in_line n number, h, refl)
-named (fault.Bound n) P h = (in_line n bound, h, refl)
-named (fault.Integer n) P h = (in_line n integer, h, refl)
-named fault.NoObjective P h = (no_objective, h, refl)
-named (fault.NoEnd n) P h = (no_end n, h, refl)
-named (fault.Limit which n) P h = (in_line n (limit (counted which)), h, refl)
-named (fault.CrossedBounds name) P h = (crossed_bounds name, h, refl)
+named : (f : DeckFault) (P : TextFault → Type 0) → MatchOption (text_fault f) ⊥ P → (first : TextFault) × P first × (reader_line f ≡ fault_line first)
+named deck.Read P h = absurd h
+named deck.Memory P h = absurd h
+named (deck.InLine n found) P h = (in_line n found, h, refl)
+named deck.NoObjective P h = (no_objective, h, refl)
+named (deck.NoEnd n) P h = (no_end n, h, refl)
+named (deck.CrossedBounds name) P h = (crossed_bounds name, h, refl)
 
 -- what standard error has of a line is Said
 module _ (w : ℕ) (SaidOf : List ℕ → Type 0) where
@@ -133,7 +140,7 @@ module _ (w : ℕ) (SaidOf : List ℕ → Type 0) where
   answers_memory (has_fault fault) = inr refl
   answers_memory (is_deck d k) = (λ other. inr refl, λ simple endless. inl (inr refl), λ simple optimum fits. inr refl)
 
-  answers_fault : (reading : Reading) (fault : Fault) → reading ≡ has_fault fault → SaidOf (fault_line fault) → Answers w reading status.BadInput SaidOf
+  answers_fault : (reading : Reading) (fault : TextFault) → reading ≡ has_fault fault → SaidOf (fault_line fault) → Answers w reading status.BadInput SaidOf
   answers_fault (has_fault fault') fault e says = inl (refl, subst (λ f. SaidOf (fault_line f)) (sym (same_fault fault' fault e)) says)
   answers_fault (is_deck d k) fault e says = absurd (cc e)
 
@@ -149,8 +156,8 @@ module _ (w : ℕ) (SaidOf : List ℕ → Type 0) where
   answered_later None k h says = tt
   answered_later (Some t) k (d, read, later) says = for_reading (reading_of t) d k status.BadInput read (deck_later d k later says)
 
-  deck_overflow : (d : Deck) (line : ℕ) → IsSimple d → DeckMeetsUnfit w budget d → AnswersDeck w d line status.Overflow SaidOf
-  deck_overflow d line simple meets = (λ other. absurd (other simple), λ _ endless. inr (inl refl), λ _ optimum fits. absurd (meets_no_unfit w d meets fits))
+  deck_overflow : (d : Deck) (line : ℕ) → IsSimple d → MeetsUnfit w budget (instance_of d) → AnswersDeck w d line status.Overflow SaidOf
+  deck_overflow d line simple meets = (λ other. absurd (other simple), λ _ endless. inr (inl refl), λ _ optimum fits. absurd (not_unfit (instance_of d) w budget fits meets))
 
   answered_overflow : (text : Option (List ℕ)) → IfSome text (IsOverflow w) → IfSome text (λ t. May t status.Overflow)
   answered_overflow None h = tt
@@ -161,7 +168,7 @@ module _ (w : ℕ) (SaidOf : List ℕ → Type 0) where
 
   answered_budget : (text : Option (List ℕ)) (n : ℕ) → IfSome text (IsOverBudget n) → IfSome text (λ t. May t status.Budget)
   answered_budget None n h = tt
-  answered_budget (Some t) n (same, d, line, read, spent) = for_reading (reading_of t) d line status.Budget read.read (deck_budget d line read.simple spent)
+  answered_budget (Some t) n (same, d, line, read, spent, short) = for_reading (reading_of t) d line status.Budget read.read (deck_budget d line read.simple spent)
 
   answered_memory : (text : Option (List ℕ)) → IfSome text (λ t. May t status.Memory)
   answered_memory None = tt

@@ -2,3 +2,4 @@ pub mod ThreeWords
 pub mod SimpleRows
 pub mod Solving
 pub mod Ending
+pub mod Bounded

@@ -2,12 +2,12 @@
 use Rattle.std.proofs.Common.{◌≡◌, Bool, true, false, None, subst, arith}
 use Rattle.std.proofs.lemmas.Int.{ints}
 use Rattle.std.specs.Prelude.{MatchBool}
-use Rattle.rational.specs.Linear.{linear, never, ◌≺◌, ◌≼◌, ◌⟹◌}
+use Rattle.rational.proofs.Linear.{linear, never, ◌≺◌, ◌≼◌, ◌⟹◌}
 use Rattle.rational.specs.Rational.{ℚ, zero_ℚ, ◌≤ℚ◌, ◌<ℚ◌}
-use Rattle.rational.specs.Ring.{𝟘}
+use Rattle.rational.proofs.Ring.{𝟘}
 use Rattle.lp_model.specs.declared.RowKind.TheVariants.{L}
 use Rattle.lp_model.specs.Deck.{Row}
-use Rattle.lp_model.specs.Simple.{IsSimpleRow}
+use Rattle.lp_run.specs.Simple.{IsSimpleRow}
 
 below_and_not : (x : ℚ) → x <ℚ zero_ℚ → zero_ℚ ≤ℚ x → ⊥
 below_and_not x = linear 1 (λ x. x ≺ 𝟘 ⟹ 𝟘 ≼ x ⟹ never) (omega (arith, ints)) x

@@ -64,9 +64,9 @@ pub report_cause : (w : ℕ) (e : Refusal) (text left old : Option (List ℕ)) (
 report_cause w (refusal.Later n) None left old d line read cause = (tt, refl)
 report_cause w (refusal.Later n) (Some t) left old d line read cause = ((d, subst (IsDeckOf t d) (sym cause.0) read, cause.1), refl)
 report_cause w refusal.Overflow None left old d line read cause = (tt, refl)
-report_cause w refusal.Overflow (Some t) left old d line read cause = ((d, line, record { read = read; simple = cause.0 }, inr cause.1), refl)
+report_cause w refusal.Overflow (Some t) left old d line read cause = ((d, line, record { read = read; simple = cause.0 }, cause.1), refl)
 report_cause w (refusal.Budget n) None left old d line read cause = (tt, refl)
-report_cause w (refusal.Budget n) (Some t) left old d line read cause = ((cause.0, d, line, record { read = read; simple = cause.1 }, cause.2), refl)
+report_cause w (refusal.Budget n) (Some t) left old d line read cause = ((cause.0, d, line, record { read = read; simple = cause.1 }, cause.2, cause.3), refl)
 report_cause w refusal.Memory text left old d line read cause = inl refl
 report_cause w (refusal.Deck fault) text left old d line read cause = absurd cause
 report_cause w refusal.Write text left old d line read cause = absurd cause

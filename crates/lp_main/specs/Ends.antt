@@ -1,12 +1,13 @@
 -- How a call of the program ends: what it leaves behind, by its end.
-use Rattle.std.specs.Prelude.{◌≡◌, ◌⊎◌, ℕ, List, Option, IfSome, Result, Ok, Err}
+use Rattle.std.specs.Prelude.{◌≡◌, ◌≢◌, ◌⊎◌, ℕ, List, Option, IfSome, Result, Ok, Err}
+use Rattle.io_ends.specs.Count.{Rose}
 use Rattle.lp_main.specs.declared.refusal.Refusal.{Refusal}
 use Rattle.lp_main.specs.declared.refusal.Refusal.TheVariants as refusal
 use Rattle.lp_main.specs.declared.status.Status.{Status}
 use Rattle.lp_main.specs.declared.status.Status.TheVariants as status
 use Rattle.lp_main.specs.Refusal.{line_of, status_of}
 use Rattle.lp_main.specs.Says.{Says}
-use Rattle.lp_main.specs.Serves.{Reports}
+use Rattle.lp_main.specs.Serves.{BeginsReport, IsCutOff, IsOrMemory, Reports}
 use Rattle.lp_main.specs.Solves.{IsCause}
 use Rattle.lp_text.specs.Words.{IsServed}
 
@@ -35,3 +36,15 @@ LeavesBy w words text left old new (Err (refusal.Budget n)) = IsServed words × 
 abbrev pub SaysBy : Option (List ℕ) → Option (List ℕ) → ℕ → ℕ → End → Type 0
 SaysBy old new count count' (Ok u) = (new ≡ old) × (count' ≡ count)
 SaysBy old new count count' (Err r) = Says old new count count' (line_of r)
+
+-- no call of an end failed, so its count of faults stands, and the status is not that of its failure; or one failed, so the count rose, for a cause, and the status is that one or want of memory
+abbrev pub FailsBy : Status → Type 0 → ℕ → ℕ → Status → Type 0
+FailsBy failure Cause count count' s = ((count' ≡ count) × (s ≢ failure)) ⊎ (Rose count count' × Cause × IsOrMemory s failure)
+
+-- no read failed; or one failed, and a read was needed after all that was taken
+abbrev pub ReadsBy : Option (List ℕ) → Option (List ℕ) → ℕ → ℕ → Status → Type 0
+ReadsBy text left count count' s = FailsBy status.ReadFault (IfSome text (IsCutOff left)) count count' s
+
+-- no write failed; or one failed behind a beginning of the report
+abbrev pub WritesBy : Option (List ℕ) → Option (List ℕ) → Option (List ℕ) → ℕ → ℕ → Status → Type 0
+WritesBy text old new count count' s = FailsBy status.WriteFault (IfSome text (BeginsReport old new)) count count' s

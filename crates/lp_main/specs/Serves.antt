@@ -1,19 +1,22 @@
 -- What a solve leaves, against the text that its source had left.
-use Rattle.std.specs.Prelude.{◌≡◌, ◌⊎◌, ℕ, ◌≤◌, List, Option, MatchOption, Some, None}
+use Rattle.std.specs.Prelude.{◌≡◌, ◌⊎◌, ℕ, ◌≤◌, ◌<◌, List, Option, MatchOption, Some, None}
 use Rattle.io_ends.specs.Bytes.{Appends, AppendsPrefix, Gives}
 use Rattle.rational.specs.Rational.{ℚ}
 use Rattle.lp_model.specs.declared.Entry.{Entry}
 use Rattle.lp_model.specs.Deck.{Deck}
-use Rattle.lp_model.specs.Instance.{instance_of}
-use Rattle.lp_model.specs.Listing.{DeckFits, DeckMeetsUnfit}
-use Rattle.lp_model.specs.Outcome.{HasOutcome, optimal}
-use Rattle.lp_model.specs.Run.{IsSpent, moves}
-use Rattle.lp_model.specs.Simple.{IsSimple}
+use Rattle.lp_run.specs.Instance.{instance_of}
+use Rattle.lp_run.specs.Listing.{RunFits}
+use Rattle.lp_run.specs.Ends.{HasOutcome}
+use Rattle.lp_model.specs.Outcome.{optimal}
+use Rattle.lp_model.specs.Log.{moves}
+use Rattle.lp_run.specs.Run.{IsSpent}
+use Rattle.bland_laws.specs.Ends.{run_bound}
+use Rattle.lp_run.specs.Simple.{IsSimple}
 use Rattle.mps_model.specs.DeckOf.{HasFault, IsDeckOf, Reading, has_fault, is_deck}
 use Rattle.mps_reader.specs.declared.faults.DeckFault.{DeckFault}
 use Rattle.mps_reader.specs.Answers.{IsReadNeeded}
-use Rattle.mps_reader.specs.Refusals.{text_fault}
-use Rattle.simple_laws.specs.Stands.{IsEndless}
+use Rattle.mps_reader.specs.Faults.{text_fault}
+use Rattle.simple_laws.specs.Stands.{IsEndless, MeetsUnfit}
 use Rattle.simple_solve.specs.Solved.{IsOptimum}
 use Rattle.lp_text.specs.Refusals.{later_line}
 use Rattle.lp_text.specs.Report.{report_text}
@@ -61,11 +64,11 @@ IsCutOff new text = (taken : List ℕ) × Gives (Some text) new taken × IsReadN
 
 -- the text is a simple deck of which some value that is listed within the budget does not fit w bits
 abbrev pub IsOverflow : ℕ → List ℕ → Type 0
-IsOverflow w text = (d : Deck) × (line : ℕ) × IsSimpleDeckOf text d line × DeckMeetsUnfit w budget d
+IsOverflow w text = (d : Deck) × (line : ℕ) × IsSimpleDeckOf text d line × MeetsUnfit w budget (instance_of d)
 
--- the text is a simple deck whose run needs more moves than the budget, which is n
+-- the text is a simple deck whose run needs more moves than the budget, which is n, and below the bound of its run by Bland's theorem
 abbrev pub IsOverBudget : ℕ → List ℕ → Type 0
-IsOverBudget n text = (n ≡ budget) × (d : Deck) × (line : ℕ) × IsSimpleDeckOf text d line × IsSpent (instance_of d) budget
+IsOverBudget n text = (n ≡ budget) × (d : Deck) × (line : ℕ) × IsSimpleDeckOf text d line × IsSpent (instance_of d) budget × (budget < run_bound (instance_of d))
 
 abbrev pub IsOrMemory : Status → Status → Type 0
 IsOrMemory s s' = (s ≡ s') ⊎ (s ≡ status.Memory)
@@ -83,7 +86,7 @@ abbrev pub AnswersDeck : ℕ → Deck → ℕ → Status → (List ℕ → Type 
 AnswersDeck w d line s Said =
     ((¬ IsSimple d) → RefusesInput s Said (later_line line))
     × (IsSimple d → IsEndless d → RefusesInput s Said (later_line line) ⊎ ((s ≡ status.Overflow) ⊎ (s ≡ status.Budget)))
-    × (IsSimple d → HasOptimum d → DeckFits w d → IsOrMemory s status.Done)
+    × (IsSimple d → HasOptimum d → RunFits w (instance_of d) → IsOrMemory s status.Done)
 
 -- which statuses a text may have, and which line goes with a refused input, where no end failed, at a width of w bits; want of memory aside
 abbrev pub Answers : ℕ → Reading → Status → (List ℕ → Type 0) → Type 0

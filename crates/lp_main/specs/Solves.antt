@@ -1,10 +1,11 @@
 -- The causes of a solve's refusals, against the text that its source had left; w is the width of the arithmetic.
-use Rattle.std.specs.Prelude.{◌≡◌, ◌⊎◌, ℕ, List, Option, None, IfSome}
+use Rattle.std.specs.Prelude.{◌≡◌, ◌⊎◌, ℕ, ◌<◌, List, Option, None, IfSome}
 use Rattle.lp_model.specs.Deck.{Deck}
-use Rattle.lp_model.specs.Instance.{instance_of}
-use Rattle.lp_model.specs.Listing.{RunMeetsUnfit}
-use Rattle.lp_model.specs.Run.{IsSpent}
-use Rattle.lp_model.specs.Simple.{IsSimple}
+use Rattle.lp_run.specs.Instance.{instance_of}
+use Rattle.simple_laws.specs.Stands.{MeetsUnfit}
+use Rattle.lp_run.specs.Run.{IsSpent}
+use Rattle.bland_laws.specs.Ends.{run_bound}
+use Rattle.lp_run.specs.Simple.{IsSimple}
 use Rattle.deck_model.specs.Outcome.{HasLengthsOf, outcome_of}
 use Rattle.cert_text.specs.declared.report.Report.{Report}
 use Rattle.simple_solve.specs.Solved.{ShowsOptimum}
@@ -52,8 +53,8 @@ pub record IsReportOf (d : Deck) (report : Report) : Type 0 where
 -- why a deck that was read, with this last line, has no report
 abbrev pub IsReportCause : ℕ → Deck → ℕ → Refusal → Type 0
 IsReportCause w d line (refusal.Later n) = (n ≡ line) × IsUnservedDeck d
-IsReportCause w d line refusal.Overflow = IsSimple d × RunMeetsUnfit w budget (instance_of d)
-IsReportCause w d line (refusal.Budget moves) = (moves ≡ budget) × IsSimple d × IsSpent (instance_of d) budget
+IsReportCause w d line refusal.Overflow = IsSimple d × MeetsUnfit w budget (instance_of d)
+IsReportCause w d line (refusal.Budget moves) = (moves ≡ budget) × IsSimple d × IsSpent (instance_of d) budget × (budget < run_bound (instance_of d))
 IsReportCause w d line refusal.Memory = Unit {0}
 IsReportCause w d line refusal.Read = ⊥
 IsReportCause w d line (refusal.Deck fault) = ⊥

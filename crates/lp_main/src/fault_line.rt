@@ -2,12 +2,12 @@
 ghost use Rattle.std.specs.Prelude.{◌≡◌, ◌++◌, IfOk, codes};
 ghost use Rattle.std.specs.Fmt.{decimal};
 ghost use Rattle.lp_text.specs.Refusals.{ended};
-ghost use Rattle.mps_model.specs.DeckOf.{crossed_bounds};
-ghost use Rattle.mps_reader.specs.Refusals.{counted};
+ghost use Rattle.mps_model.specs.DeckOf.{crossed_bounds, in_line};
 ghost use Rattle.lp_main.specs.FaultLines.{fault_line, limit_words, reader_line};
 
 use deck_model::Name;
-use mps_reader::{DeckFault, Which};
+use lp_text::{Counted, LineFault};
+use mps_reader::DeckFault;
 use std::alloc::{AllocError, Global};
 
 /// A line of this text.
@@ -57,14 +57,34 @@ fn crossed(alloc: Global, name: &Name) -> Result<Vec<u8>, AllocError>
 }
 
 /// What is said of a limit.
-fn limit_words(which: Which) -> &'static str
-    ensures { result.now ≡ limit_words (counted which) }
+fn limit_words(what: Counted) -> &'static str
+    ensures { result.now ≡ limit_words what }
 {
-    match which {
-        Which::Rows => ": limit of rows",
-        Which::Columns => ": limit of columns",
-        Which::Entries => ": limit of entries",
-        Which::Bytes => ": limit of bytes",
+    match what {
+        Counted::Rows => ": limit of rows",
+        Counted::Columns => ": limit of columns",
+        Counted::Entries => ": limit of entries",
+        Counted::Bytes => ": limit of bytes",
+    }
+}
+
+/// The line of a fault of a line.
+fn in_line(alloc: Global, line: u64, fault: LineFault) -> Result<Vec<u8>, AllocError>
+    ensures { IfOk result (λ text. text.items ≡ fault_line (in_line line fault)) }
+{
+    match fault {
+        LineFault::Limit(what) => numbered(alloc, "lp: line ", line, limit_words(what)),
+        LineFault::NotAscii => numbered(alloc, "lp: line ", line, ": byte not printable"),
+        LineFault::Columns(column) => at_column(alloc, line, column),
+        LineFault::Section => numbered(alloc, "lp: line ", line, ": section"),
+        LineFault::RowType => numbered(alloc, "lp: line ", line, ": row type"),
+        LineFault::UnknownRow => numbered(alloc, "lp: line ", line, ": unknown row"),
+        LineFault::UnknownColumn => numbered(alloc, "lp: line ", line, ": unknown column"),
+        LineFault::Repeated => numbered(alloc, "lp: line ", line, ": repeated"),
+        LineFault::Scattered => numbered(alloc, "lp: line ", line, ": scattered column"),
+        LineFault::Number => numbered(alloc, "lp: line ", line, ": number"),
+        LineFault::Bound => numbered(alloc, "lp: line ", line, ": bound"),
+        LineFault::Integer => numbered(alloc, "lp: line ", line, ": integer"),
     }
 }
 
@@ -75,17 +95,7 @@ pub fn fault_line(alloc: Global, fault: &DeckFault) -> Result<Vec<u8>, AllocErro
     match fault {
         DeckFault::Read => whole_line(alloc, "lp: read failed"),
         DeckFault::Memory => whole_line(alloc, "lp: out of memory"),
-        DeckFault::Columns(line, column) => at_column(alloc, *line, *column),
-        DeckFault::NotAscii(line) => numbered(alloc, "lp: line ", *line, ": byte not printable"),
-        DeckFault::Section(line) => numbered(alloc, "lp: line ", *line, ": section"),
-        DeckFault::RowType(line) => numbered(alloc, "lp: line ", *line, ": row type"),
-        DeckFault::UnknownRow(line) => numbered(alloc, "lp: line ", *line, ": unknown row"),
-        DeckFault::UnknownColumn(line) => numbered(alloc, "lp: line ", *line, ": unknown column"),
-        DeckFault::Repeated(line) => numbered(alloc, "lp: line ", *line, ": repeated"),
-        DeckFault::Scattered(line) => numbered(alloc, "lp: line ", *line, ": scattered column"),
-        DeckFault::Number(line) => numbered(alloc, "lp: line ", *line, ": number"),
-        DeckFault::Bound(line) => numbered(alloc, "lp: line ", *line, ": bound"),
-        DeckFault::Integer(line) => numbered(alloc, "lp: line ", *line, ": integer"),
+        DeckFault::InLine(line, fault) => in_line(alloc, *line, *fault),
         DeckFault::NoObjective => whole_line(alloc, "lp: no objective row"),
         DeckFault::NoEnd(lines) => {
             numbered(
@@ -94,9 +104,6 @@ pub fn fault_line(alloc: Global, fault: &DeckFault) -> Result<Vec<u8>, AllocErro
                 *lines,
                 " lines",
             )
-        }
-        DeckFault::Limit(which, line) => {
-            numbered(alloc, "lp: line ", *line, limit_words(*which))
         }
         DeckFault::CrossedBounds(name) => crossed(alloc, name),
     }

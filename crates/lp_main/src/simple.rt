@@ -1,12 +1,12 @@
 // Whether a deck is simple.
 ghost use Rattle.std.specs.Prelude.{◌≡◌, ◌≢◌, ◌<◌, ◌↔◌, IsTrue, MatchBool, length};
 ghost use Rattle.rational.specs.Rational.{zero_ℚ, ◌≤ℚ◌, ◌<ℚ◌};
-ghost use Rattle.lp_model.specs.Deck.{column as column_at, nonnegative, row as row_at};
-ghost use Rattle.lp_model.specs.Simple.{IsSimple, IsSimpleRow};
+ghost use Rattle.lp_model.specs.Deck.{IsDeck, column as column_at, nonnegative, row as row_at};
+ghost use Rattle.lp_run.specs.Simple.{IsSimple, IsSimpleRow};
 
 use deck_model::{Deck, End};
 use exact_frac::Frac;
-use lp_model::RowKind;
+use lp_model::{RowKind, Sense};
 
 /// Whether a number is not below 0.
 #[tactic(auto, using(simple_table::proofs::Signs::below_zero, simple_table::proofs::Signs::not_below_zero))]
@@ -59,17 +59,32 @@ fn is_simple_column(deck: &Deck, column: usize) -> bool
     is_zero(lower) && is_infinite(upper)
 }
 
-/// Whether a deck is simple: all its rows are of type L, without a range and with a right side that is not below 0, and every
-/// column has the bounds 0 to infinity.
-pub fn is_simple(deck: &Deck) -> bool
-    ensures { IsTrue result ↔ IsSimple deck.now }
+/// Whether a deck is to be minimised.
+fn is_minimised(deck: &Deck) -> bool
+    ensures { MatchBool result (deck.now.sense ≡ Sense.Min) (deck.now.sense ≢ Sense.Min) }
 {
-    for row in 0..deck.rows() {
+    match deck.sense() {
+        Sense::Min => true,
+        Sense::Max => false,
+    }
+}
+
+/// Whether a deck is simple: it is to be minimised, all its rows are of type L, without a range and with a right side that is not
+/// below 0, and every column has the bounds 0 to infinity.
+pub fn is_simple(deck: &Deck) -> bool
+    ensures simple { IsTrue result ↔ IsSimple deck.now }
+    ensures deck { IsDeck deck.now }
+{
+    let (rows, columns) = (deck.rows(), deck.columns());
+    if !is_minimised(deck) {
+        return false;
+    }
+    for row in 0..rows {
         if !is_simple_row(deck, row) {
             return false;
         }
     }
-    for column in 0..deck.columns() {
+    for column in 0..columns {
         if !is_simple_column(deck, column) {
             return false;
         }

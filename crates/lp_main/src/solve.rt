@@ -109,8 +109,10 @@ pub fn solve<S: Source, K: Sink, A: Arith>(
     ensures cause { IfErr result (IsCause (A.width arith.old) (S.remaining source.old) (S.remaining source.new) (K.contents out.old) (K.contents out.new)) }
     ensures needed { IsReadAsNeeded [] (S.remaining source.old) (S.remaining source.new) }
     ensures source_rose { IsErrOf result Refusal.Read → Rose (S.fault_count source.old) (S.fault_count source.new) }
+    ensures source_stays { ¬ IsErrOf result Refusal.Read → S.fault_count source.new ≡ S.fault_count source.old }
     ensures source_never_falls { S.fault_count source.old ≤ S.fault_count source.new }
     ensures sink_rose { IsErrOf result Refusal.Write → Rose (K.fault_count out.old) (K.fault_count out.new) }
+    ensures sink_stays { ¬ IsErrOf result Refusal.Write → K.fault_count out.new ≡ K.fault_count out.old }
     ensures sink_never_falls { K.fault_count out.old ≤ K.fault_count out.new }
     ensures same_width { A.width arith.new ≡ A.width arith.old }
 {

@@ -5,7 +5,7 @@ ghost use Rattle.io_ends.specs.Count.{Rose};
 ghost use Rattle.lp_text.specs.Words.{IsServed};
 ghost use Rattle.mps_model.specs.DeckOf.{reading_of};
 ghost use Rattle.mps_reader.specs.Answers.{IsReadAsNeeded};
-ghost use Rattle.lp_main.specs.Ends.{End, LeavesBy, SaysBy, status_of_end};
+ghost use Rattle.lp_main.specs.Ends.{End, LeavesBy, ReadsBy, SaysBy, WritesBy, status_of_end};
 ghost use Rattle.lp_main.specs.Says.{Says};
 ghost use Rattle.lp_main.specs.Serves.{Answers};
 
@@ -29,7 +29,8 @@ use std::thread::Threads;
 ///   are not served; the text's first fault; `later` at the line that ends a deck which is not simple, or
 ///   a simple one whose run ends at a step without a limit; a failed read, where what was taken has no
 ///   whole line with a fault and none that ends the deck; a failed write; of a simple deck, a listed
-///   value that does not fit the width, or a run longer than the budget. `out` gained nothing, but after
+///   value that does not fit the width, or a run longer than the budget, which is then below the bound of
+///   Bland's theorem. `out` gained nothing, but after
 ///   a failed write or want of memory it may have a beginning of the report.
 /// - `needed`: `deck` is read only as needed, however the call ends: before the last read, of up to 4,096
 ///   bytes, no line that stands whole in the bytes that were read has a fault, none ends the deck, and the
@@ -37,7 +38,13 @@ use std::thread::Threads;
 /// - `source_never_falls`, `sink_never_falls`: the counts of faults of `deck` and `out` do not fall.
 /// - `unserved`: with words that are not served neither count changes.
 /// - `same_width`: the arithmetic keeps its width.
-/// - `read_fault`, `write_fault`: these statuses come only where the count of that end rose.
+/// - `read_fault`: either no read failed, so that the count of `deck` stands, and the status is not
+///   `ReadFault`. Or a read failed, the count rose, and the status is `ReadFault` or `Memory`: a read
+///   was needed after all that was taken, so none is tried behind the line that ends the deck or one that
+///   has a fault.
+/// - `write_fault`: either no write failed, so that the count of `out` stands, and the status is not
+///   `WriteFault`. Or a write failed behind a beginning of the report, the count rose, and the status is
+///   `WriteFault` or `Memory`.
 /// - `answered`: with served words, and where neither count rose, the status is one that the text may
 ///   have, or `Memory`. A text with a fault has `BadInput` and the line of its first fault. A deck that
 ///   is not simple has `BadInput` and the line `later`; a simple deck without end has this too, or
@@ -60,8 +67,8 @@ pub fn run_alone<R: Threads, S: Source, K: Sink, E: Sink, A: Arith>(
     ensures sink_never_falls { K.fault_count out.old ≤ K.fault_count out.new }
     ensures unserved { (¬ IsServed (map string_bytes words.now)) → (S.fault_count deck.new ≡ S.fault_count deck.old) × (K.fault_count out.new ≡ K.fault_count out.old) }
     ensures same_width { A.width arith.new ≡ A.width arith.old }
-    ensures read_fault { result ≡ Status.ReadFault → Rose (S.fault_count deck.old) (S.fault_count deck.new) }
-    ensures write_fault { result ≡ Status.WriteFault → Rose (K.fault_count out.old) (K.fault_count out.new) }
+    ensures read_fault { ReadsBy (S.remaining deck.old) (S.remaining deck.new) (S.fault_count deck.old) (S.fault_count deck.new) result }
+    ensures write_fault { WritesBy (S.remaining deck.old) (K.contents out.old) (K.contents out.new) (K.fault_count out.old) (K.fault_count out.new) result }
     ensures answered { IsServed (map string_bytes words.now) → ¬ Rose (S.fault_count deck.old) (S.fault_count deck.new) → ¬ Rose (K.fault_count out.old) (K.fault_count out.new)
         → IfSome (S.remaining deck.old) (λ text. Answers (A.width arith.old) (reading_of text) result
         (Says (E.contents err.old) (E.contents err.new) (E.fault_count err.old) (E.fault_count err.new))) }

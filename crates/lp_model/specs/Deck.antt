@@ -1,9 +1,12 @@
 -- A deck: a linear program with its names. Its feasible points and its optima.
-use Rattle.std.specs.Prelude.{◌≡◌, ◌≢◌, ℕ, ◌+◌, ◌<◌, ◌≤◌, List, [], ◌∷◌, length, Option, Some, None, get_or, ◌==◌, if◌then◌else◌}
+use Rattle.std.specs.Prelude.{◌≡◌, ℕ, ◌<◌, List, [], length, Option, Some, None, get_or}
 use Rattle.std.specs.declared.cmp.Ordering.TheVariants.{Less, Equal, Greater}
 use Rattle.lp_model.specs.declared.RowKind.{RowKind}
 use Rattle.lp_model.specs.declared.RowKind.TheVariants.{L, G, E}
+use Rattle.lp_model.specs.declared.Sense.{Sense}
+use Rattle.lp_model.specs.declared.Sense.TheVariants.{Min, Max}
 use Rattle.rational.specs.Rational.{ℚ, zero_ℚ, ◌+ℚ◌, ◌-ℚ◌, ◌*ℚ◌, neg_ℚ, abs_ℚ, cmp_ℚ, ◌≤ℚ◌}
+use Rattle.rational.specs.Sparse.{IsSparse, entry_at}
 use Rattle.rational.specs.Sum.{sum_ℚ, at}
 
 -- the numbers from a lower to an upper end; an end that is absent is infinite
@@ -36,10 +39,11 @@ pub record Column : Type 0 where
   pub entries : List (ℕ × ℚ)
   pub bounds : Interval
 
--- a deck: its name, the objective's name, its rows, its columns and the objective's constant
+-- a deck: its name, the objective's name, whether the least or the greatest objective is sought, its rows, its columns and the objective's constant
 pub record Deck : Type 0 where
   pub name : List ℕ
   pub objective : List ℕ
+  pub sense : Sense
   pub rows : List Row
   pub columns : List Column
   pub constant : ℚ
@@ -47,16 +51,6 @@ pub record Deck : Type 0 where
 -- the ends of an interval do not cross
 abbrev pub IsUncrossed : Interval → Type 0
 IsUncrossed i = (l u : ℚ) → i.lower ≡ Some l → i.upper ≡ Some u → l ≤ℚ u
-
--- pairs of strictly rising index below m, from an index up, none of whose numbers is 0
-abbrev pub IsSparse : ℕ → ℕ → List (ℕ × ℚ) → Type 0
-IsSparse m from [] = Unit {0}
-IsSparse m from ((k, v) ∷ pairs) = (from ≤ k) × (k < m) × (v ≢ zero_ℚ) × IsSparse m (k + 1) pairs
-
--- the entry of a sparse column in a row; 0 where it has none
-abbrev pub entry_at : List (ℕ × ℚ) → ℕ → ℚ
-entry_at [] i = zero_ℚ
-entry_at ((k, v) ∷ pairs) i = if k == i then v else entry_at pairs i
 
 abbrev pub nonnegative : Interval
 nonnegative = record { lower = Some zero_ℚ; upper = None }
@@ -129,14 +123,19 @@ pub record IsFeasible (d : Deck) (x : List ℚ) : Type 0 where
   pub rows_within : (i : ℕ) → i < length d.rows → Within (activity_interval (row d i)) (activity d x i)
 
 -- the cost of a list of numbers
-abbrev pub cost_of : Deck → List ℚ → ℚ
-cost_of d x = sum_ℚ (length d.columns) (λ j. (column d j).cost *ℚ at x j)
+abbrev pub cost_at : Deck → List ℚ → ℚ
+cost_at d x = sum_ℚ (length d.columns) (λ j. (column d j).cost *ℚ at x j)
 
 -- the objective at a point: the constant and the cost
 abbrev pub objective : Deck → List ℚ → ℚ
-objective d x = d.constant +ℚ cost_of d x
+objective d x = d.constant +ℚ cost_at d x
 
--- no feasible point has a smaller objective
+-- a number as the sense counts it, so that less is better: itself, or its negative where the greatest is sought
+abbrev pub in_sense : Sense → ℚ → ℚ
+in_sense Min v = v
+in_sense Max v = neg_ℚ v
+
+-- no feasible point has a better objective
 pub record IsOptimal (d : Deck) (x : List ℚ) : Type 0 where
   pub feasible : IsFeasible d x
-  pub least : (x' : List ℚ) → IsFeasible d x' → objective d x ≤ℚ objective d x'
+  pub least : (x' : List ℚ) → IsFeasible d x' → in_sense d.sense (objective d x) ≤ℚ in_sense d.sense (objective d x')

@@ -1,6 +1,8 @@
 -- Edits of a deck: what it is after a row, a column or a number is added or set.
 use Rattle.std.specs.Prelude.{ℕ, ◌+◌, List, [], ◌∷◌, ◌++◌, Option, Some, Bool, true, false, ◌&&◌, ◌||◌, ◌==◌, nat_lt, position, set, is_some, if◌then◌else◌, length, sum_by}
 use Rattle.lp_model.specs.declared.RowKind.{RowKind}
+use Rattle.lp_model.specs.declared.Sense.{Sense}
+use Rattle.lp_model.specs.declared.Sense.TheVariants.{Min}
 use Rattle.rational.specs.Rational.{ℚ, zero_ℚ, eq_ℚ}
 use Rattle.lp_model.specs.Deck.{Column, Deck, Interval, Row, no_column, no_row, row, column}
 
@@ -11,9 +13,9 @@ same_bytes [] (d ∷ ds) = false
 same_bytes (c ∷ cs) [] = false
 same_bytes (c ∷ cs) (d ∷ ds) = c == d && same_bytes cs ds
 
--- a deck without rows and columns
+-- a deck without rows and columns, to be minimised
 abbrev pub new_deck : List ℕ → List ℕ → Deck
-new_deck name objective = record { name = name; objective = objective; rows = []; columns = []; constant = zero_ℚ }
+new_deck name objective = record { name = name; objective = objective; sense = Min; rows = []; columns = []; constant = zero_ℚ }
 
 -- the index of the row, or of the column, of a name
 abbrev pub find_row : Deck → List ℕ → Option ℕ
@@ -63,6 +65,9 @@ with_right d i v = change_row d i (λ r. record r { right = v })
 
 abbrev pub with_range : Deck → ℕ → ℚ → Deck
 with_range d i v = change_row d i (λ r. record r { range = Some v })
+
+abbrev pub with_sense : Deck → Sense → Deck
+with_sense d sense = record d { sense = sense }
 
 abbrev pub with_constant : Deck → ℚ → Deck
 with_constant d v = record d { constant = v }

@@ -1,12 +1,5 @@
 pub mod Deck
 pub mod Certificate
-pub mod Instance
-pub mod State
-pub mod Solution
-pub mod Step
-pub mod Run
 pub mod Outcome
-pub mod Listing
+pub mod Log
 pub mod Edit
-pub mod Tableau
-pub mod Simple

@@ -1,43 +1,8 @@
--- The outcome of a whole run: an optimal point with its prices, a Farkas row, or a feasible point with a ray.
-use Rattle.std.specs.Prelude.{◌≡◌, ℕ, List, [], ◌∷◌, map, ◌==◌, if◌then◌else◌}
-use Rattle.lp_model.specs.declared.Entry.{Entry}
-use Rattle.rational.specs.Rational.{ℚ, zero_ℚ, ◌+ℚ◌, ◌*ℚ◌, neg_ℚ}
-use Rattle.rational.specs.Sum.{sum_ℚ, at}
-use Rattle.lp_model.specs.Instance.{Instance, structural, structural_count, upto}
-use Rattle.lp_model.specs.State.{State, rest}
-use Rattle.lp_model.specs.Solution.{reduced}
-use Rattle.lp_model.specs.Step.{EndsFree, EndsInfeasible, EndsOptimal, direction}
-use Rattle.lp_model.specs.Run.{IsRun}
+-- The answers: an optimal point with its prices and its objective, a Farkas row, or a feasible point with a ray.
+use Rattle.std.specs.Prelude.{List}
+use Rattle.rational.specs.Rational.{ℚ}
 
 pub data Outcome : Type 0 where
   optimal : (x y : List ℚ) → ℚ → Outcome
   infeasible : (y : List ℚ) → Outcome
   unbounded : (x ray : List ℚ) → Outcome
-
--- the value of the position in which column j is basic; another one where it is in none
-abbrev pub by_position : List ℕ → List ℚ → ℕ → ℚ → ℚ
-by_position [] values j otherwise = otherwise
-by_position (k ∷ basis) [] j otherwise = otherwise
-by_position (k ∷ basis) (v ∷ values) j otherwise = if k == j then v else by_position basis values j otherwise
-
--- the values of the structurals
-abbrev pub point : Instance → State → List ℚ → List ℚ
-point inst s β = map (λ j. by_position s.basis β j (rest inst s j)) (upto (structural_count inst))
-
--- the ray along which column q moves without end in the direction t: q itself, and each basic structural against it
-abbrev pub ray : Instance → State → ℕ → ℚ → List ℚ → List ℚ
-ray inst s q t α = map (λ j. by_position s.basis (map (λ a. neg_ℚ t *ℚ a) α) j (if j == q then t else zero_ℚ)) (upto (structural_count inst))
-
--- the objective at a point: the constant and the cost of the structurals
-abbrev pub objective_at : Instance → List ℚ → ℚ
-objective_at inst x = inst.constant +ℚ sum_ℚ (structural_count inst) (λ j. (structural inst j).cost *ℚ at x j)
-
--- the outcome that a final state gives
-abbrev pub Gives : Instance → State → Outcome → Type 0
-Gives inst s (optimal x y v) = (β : List ℚ) × EndsOptimal inst s y β × (x ≡ point inst s β) × (v ≡ objective_at inst x)
-Gives inst s (infeasible y) = (β : List ℚ) × EndsInfeasible inst s y β
-Gives inst s (unbounded x r) = (y β α : List ℚ) × (q : ℕ) × EndsFree inst s y β α q × (x ≡ point inst s β) × (r ≡ ray inst s q (direction (reduced inst s y q)) α)
-
--- the instance's whole run is the log, and its outcome is o
-abbrev pub HasOutcome : Instance → List Entry → Outcome → Type 0
-HasOutcome inst log o = (s : State) × IsRun inst log s × Gives inst s o

@@ -1,12 +1,24 @@
-//! The linear program and its run, as definitions.
+//! The linear program, as definitions: what a user of an answer has to believe, and no more.
 //!
 //! The crate has almost no code: it declares the plain enums that the solver's crates share, and its
-//! `specs/` say what a deck is, when a point is feasible, which lists prove an answer, and what the
-//! one run of Bland's rule on a deck is (Bland 1977). The crates above see their values through these
-//! definitions, and their contracts cite them.
+//! `specs/` say what a deck is, when a point is feasible and when it is optimal, and which lists prove
+//! an answer. The crates above see their values through these definitions, and their contracts cite
+//! them.
 //!
-//! It stands on `rational`.
+//! - `Deck`: a linear program with its names and its sense, its feasible points and its optima.
+//! - `Certificate`: the three proofs that an answer carries.
+//! - `Outcome`, `Log`: the answers, and the entries of a run.
+//! - `Edit`: how a deck is built, call by call.
+//!
+//! How the method reaches an answer is said in `lp_run`. It stands on `rational`.
 #![tactic(auto)]
+
+/// Whether a deck asks for the least or for the greatest objective.
+#[derive(Clone, Copy, Debug, PartialEq, Eq)]
+pub enum Sense {
+    Min,
+    Max,
+}
 
 /// The kind of a row: its activity is at most, at least or equal to its right side.
 #[derive(Clone, Copy, Debug, PartialEq, Eq)]

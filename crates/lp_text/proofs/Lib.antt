@@ -1,4 +1,3 @@
 pub mod LinesLemmas
-pub mod PlainSimple
-mod WorkedDecks
 mod WorkedCards
+mod WorkedReports

@@ -5,7 +5,7 @@ use Rattle.std.proofs.lemmas.Bool.{ne_eqb}
 use Rattle.std.proofs.lemmas.Bool.Decides.{eqb_tells}
 use Rattle.std.specs.List.{flat_map}
 use Rattle.lp_text.specs.Lines.{Line, lines_of, onto_first, size_of, whole_lines}
-use Rattle.lp_text.specs.LineText.{line_text, IsFreeOfFeeds}
+use Rattle.lp_text.specs.Inner.LineText.{line_text, IsFreeOfFeeds}
 
 -- a line of bytes that end in a line feed
 abbrev pub ended : List ℕ → Line

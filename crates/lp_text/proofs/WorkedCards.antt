@@ -1,7 +1,8 @@
 -- Worked lines: the cards that they are, or their faults.
 use Rattle.std.proofs.Common.{◌≡◌, [], ◌∷◌, ◌++◌, Some, None, Ok, Err, true, false, replicate, refl}
 use Rattle.std.specs.Prelude.{codes}
-use Rattle.lp_text.specs.Cards.{card_of, columns, not_ascii}
+use Rattle.lp_text.specs.Cards.{card_of}
+use Rattle.lp_text.specs.declared.LineFault.TheVariants.{Columns, NotAscii}
 
 row : card_of (codes " L  R1") ≡ Ok (Some (record { is_section = false; fields = codes "L" ∷ codes "R1" ∷ [] ∷ [] ∷ [] ∷ [] ∷ [] }))
 row = refl
@@ -31,22 +32,22 @@ empty : card_of [] ≡ Ok None
 empty = refl
 
 -- a tab, a byte past 126, a carriage return before the line's end
-tab : card_of (codes " L" ++ 9 ∷ codes "R1") ≡ Err not_ascii
+tab : card_of (codes " L" ++ 9 ∷ codes "R1") ≡ Err NotAscii
 tab = refl
 
-high_byte : card_of (codes "ROWS" ++ 200 ∷ []) ≡ Err not_ascii
+high_byte : card_of (codes "ROWS" ++ 200 ∷ []) ≡ Err NotAscii
 high_byte = refl
 
-inner_return : card_of (codes "ROWS" ++ 13 ∷ 13 ∷ []) ≡ Err not_ascii
+inner_return : card_of (codes "ROWS" ++ 13 ∷ 13 ∷ []) ≡ Err NotAscii
 inner_return = refl
 
 -- a byte in column 4, and the least of two
-fourth_column : card_of (codes "   X") ≡ Err (columns 4)
+fourth_column : card_of (codes "   X") ≡ Err (Columns 4)
 fourth_column = refl
 
-least_column : card_of (codes "    COST    XX  Y") ≡ Err (columns 13)
+least_column : card_of (codes "    COST    XX  Y") ≡ Err (Columns 13)
 least_column = refl
 
 -- a byte that does not print comes before a column that is not blank
-fault_order : card_of (codes "   X " ++ 127 ∷ []) ≡ Err not_ascii
+fault_order : card_of (codes "   X " ++ 127 ∷ []) ≡ Err NotAscii
 fault_order = refl

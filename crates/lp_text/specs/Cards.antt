@@ -2,16 +2,13 @@
 -- Columns count from 1.
 use Rattle.std.specs.Prelude.{ℕ, ◌-◌, List, [], ◌∷◌, reverse, length, map, take, find, slice_index, slice_index_or, slice_range, Option, Some, None, Result, Ok, Err, Bool, true, false, ◌||◌, ◌&&◌, ◌==◌, nat_le, not, if◌then◌else◌}
 use Rattle.std.specs.List.{list_all, take_while}
+use Rattle.lp_text.specs.declared.LineFault.{LineFault}
+use Rattle.lp_text.specs.declared.LineFault.TheVariants as fault
 
 -- a card of a section, with its word as field 1 and the text of columns 15 to 22 as field 3, or a card of data; six fields
 pub record Card : Type 0 where
   pub is_section : Bool
   pub fields : List (List ℕ)
-
--- a byte that does not print, or the least column between two fields that is not blank
-pub data CardFault : Type 0 where
-  not_ascii : CardFault
-  columns : ℕ → CardFault
 
 abbrev pub is_blank : ℕ → Bool
 is_blank c = c == 32
@@ -68,18 +65,18 @@ field_of fields number = slice_index_or fields (number - 1) []
 abbrev pub is_ignored : List ℕ → Bool
 is_ignored text = byte_in text 1 == 42 || list_all is_blank text
 
-abbrev pub data_card : List ℕ → Option ℕ → Result (Option Card) CardFault
+abbrev pub data_card : List ℕ → Option ℕ → Result (Option Card) LineFault
 data_card text None = Ok (Some (record { is_section = false; fields = data_fields text }))
-data_card text (Some column) = Err (columns column)
+data_card text (Some column) = Err (fault.Columns column)
 
 -- the card in the columns that count, its first fault, or none where the line is ignored
-abbrev pub card_in : List ℕ → Result (Option Card) CardFault
+abbrev pub card_in : List ℕ → Result (Option Card) LineFault
 card_in text =
     if is_ignored text then Ok None
-    else if not (list_all is_printable text) then Err not_ascii
+    else if not (list_all is_printable text) then Err fault.NotAscii
     else if is_blank (byte_in text 1) then data_card text (filled_gap text)
     else Ok (Some (record { is_section = true; fields = section_fields text }))
 
 -- the card of a line, which is without its line feed
-abbrev pub card_of : List ℕ → Result (Option Card) CardFault
+abbrev pub card_of : List ℕ → Result (Option Card) LineFault
 card_of line = card_in (counted line)

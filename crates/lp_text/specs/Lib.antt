@@ -1,9 +1,9 @@
 pub mod Lines
-pub mod LineText
 pub mod Cards
+pub mod Digits
 pub mod Fraction
+pub mod Limits
 pub mod Report
 pub mod Words
 pub mod Refusals
-pub mod PlainCards
-pub mod PlainDeck
+pub mod Inner

@@ -8,7 +8,7 @@ use Rattle.lp_model.specs.declared.Entry.TheVariants.{Flip, Swap, Turn}
 use Rattle.lp_model.specs.declared.Side.{Side}
 use Rattle.lp_model.specs.declared.Side.TheVariants as side
 use Rattle.lp_model.specs.Deck.{Deck}
-use Rattle.lp_model.specs.Instance.{upto}
+use Rattle.rational.specs.Sparse.{upto}
 use Rattle.lp_model.specs.Outcome.{Outcome, infeasible, optimal, unbounded}
 use Rattle.lp_text.specs.Fraction.{fraction_text}
 use Rattle.lp_text.specs.Lines.{text_of}

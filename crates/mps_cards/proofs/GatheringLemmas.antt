@@ -5,18 +5,18 @@ use Rattle.std.proofs.lemmas.List.{append-nil, take_all, take-append-le, take-ta
 use Rattle.std.proofs.lemmas.List.Elements.{All-append, All-head, All-nil, All-tail}
 use Rattle.std.proofs.lemmas.Bool.{cases_lt, false≢true, le-ltb, lt-ltb, ne_eqb}
 use Rattle.lp_text.specs.Lines.{Line as TextLine, lines_of, onto_first, size_of}
-use Rattle.lp_text.specs.LineText.{IsFreeOfFeeds, line_text}
+use Rattle.lp_text.specs.Inner.LineText.{IsFreeOfFeeds, line_text}
 use Rattle.lp_text.proofs.LinesLemmas.{ended, lines_of-ended, lines_of-longer, lines_of-unended, unended, whole_lines-free}
 use Rattle.io_ends.specs.Bytes.{Gives}
 use Rattle.io_ends.specs.Count.{Rose}
 use Rattle.io_ends.proofs.BytesLemmas.{Gives-append}
-use Rattle.mps_cards.specs.Reading.{FailsToRead, IsAtEnd, IsNeeded, TakesAsNeeded, TakesLine, first_size, lines_left}
-use Rattle.mps_cards.specs.declared.faults.LineFault.{LineFault}
-use Rattle.mps_cards.specs.declared.faults.LineFault.TheVariants.{Memory, Read, TooMany}
+use Rattle.mps_cards.specs.NextLine.{FailsToRead, IsAtEnd, IsNeeded, TakesAsNeeded, TakesLine, first_size, lines_left}
+use Rattle.mps_cards.specs.declared.faults.ReadFault.{ReadFault}
+use Rattle.mps_cards.specs.declared.faults.ReadFault.TheVariants.{Memory, Read, TooMany}
 use Rattle.mps_cards.specs.declared.gathering.Asked.{Asked}
 use Rattle.mps_cards.specs.declared.gathering.Gathered.{Gathered}
 use Rattle.mps_cards.specs.declared.gathering.Growing.{Growing}
-use Rattle.mps_cards.specs.Pieces.{BeginsWith, Gathers, GathersNone, IsGatherFault, IsPieceFault, Overruns, TakesPiece}
+use Rattle.mps_cards.specs.Inner.Pieces.{BeginsWith, Gathers, GathersNone, IsGatherFault, IsPieceFault, Overruns, TakesPiece}
 
 -- ── the bytes of a source ──
 
@@ -335,7 +335,7 @@ module _ (kept0 : List ℕ) (left0 : Option (List ℕ)) (since : ℕ) (asked : A
   }
 
   -- a fault at a piece is one of the whole line
-  pub IsGatherFault-piece : (faults0 faults : ℕ) → faults ≡ faults0 → (fault : LineFault) → IsPieceFault before kept asked fault
+  pub IsGatherFault-piece : (faults0 faults : ℕ) → faults ≡ faults0 → (fault : ReadFault) → IsPieceFault before kept asked fault
       → IsGatherFault kept0 left0 left faults0 faults since asked fault
   IsGatherFault-piece faults0 faults stays Read cause = absurd cause
   IsGatherFault-piece faults0 faults stays Memory cause = stays

@@ -4,8 +4,8 @@ use Rattle.std.proofs.lemmas.List.{append-nil, drop_more, take-append-drop, take
 use Rattle.std.proofs.lemmas.Bool.{cases_lt, le-ltb, lt-ltb}
 use Rattle.std.specs.Int.{from_bool}
 use Rattle.lp_text.specs.Lines.{Line as TextLine, size_of}
-use Rattle.lp_text.specs.LineText.{IsFreeOfFeeds}
-use Rattle.mps_cards.specs.Pieces.{BeginsWith}
+use Rattle.lp_text.specs.Inner.LineText.{IsFreeOfFeeds}
+use Rattle.mps_cards.specs.Inner.Pieces.{BeginsWith}
 
 -- the bytes up to the place of the first line feed, or all of them
 abbrev pub piece_to : ℕ → List ℕ → TextLine

@@ -5,7 +5,7 @@ use Rattle.std.proofs.lemmas.Bool.{cases_lt, le-ltb, lt-ltb}
 use Rattle.lp_text.specs.Cards.{counted}
 use Rattle.lp_text.specs.Lines.{Line as TextLine}
 use Rattle.mps_cards.specs.declared.lines.Line.{Line}
-use Rattle.mps_cards.specs.Reading.{answered}
+use Rattle.mps_cards.specs.NextLine.{answered}
 use Rattle.mps_cards.specs.Splitting.{judged}
 
 -- a byte past the columns that count may be dropped

@@ -1,5 +1,4 @@
 pub mod ReaderState
-pub mod Reading
-pub mod Pieces
+pub mod NextLine
 pub mod Splitting
-pub mod FieldList
+pub mod Inner

@@ -1,6 +1,7 @@
 -- What a line is split into: the card that it is.
 use Rattle.std.specs.Prelude.{◌≡◌, ℕ, List, take, Option, Some, None, Result, Ok, Err, Bool, true, false, if◌then◌else◌}
-use Rattle.lp_text.specs.Cards.{Card as TextCard, CardFault as TextFault, columns, not_ascii, without_return}
+use Rattle.lp_text.specs.Cards.{Card as TextCard, without_return}
+use Rattle.lp_text.specs.declared.LineFault.{LineFault}
 use Rattle.mps_cards.specs.declared.cards.CardKind.{CardKind}
 use Rattle.mps_cards.specs.declared.cards.CardKind.TheVariants as kinds
 use Rattle.mps_cards.specs.declared.cards.CardFault.{CardFault}
@@ -21,9 +22,8 @@ abbrev pub judged : Line → List ℕ
 judged line = take 61 (if line.longer then line.bytes else without_return line.bytes)
 
 -- an answer to a line of this number says what the line is
-abbrev pub Says : ℕ → Result (Option TextCard) TextFault → Result (Option Card) CardFault → Type 0
+abbrev pub Says : ℕ → Result (Option TextCard) LineFault → Result (Option Card) CardFault → Type 0
 Says number what (Ok None) = what ≡ Ok None
 Says number what (Ok (Some card)) = (what ≡ Ok (Some (text_card card))) × (card.line ≡ number)
 Says number what (Err faults.Memory) = Unit {0}
-Says number what (Err (faults.NotAscii line)) = (what ≡ Err not_ascii) × (line ≡ number)
-Says number what (Err (faults.Columns line column)) = (what ≡ Err (columns column)) × (line ≡ number)
+Says number what (Err (faults.InLine line fault)) = (what ≡ Err fault) × (line ≡ number)

@@ -1,8 +1,9 @@
 ghost use Rattle.std.specs.Prelude.{◌≡◌, ◌≤◌, IfOk};
 ghost use Rattle.lp_text.specs.Cards.{bytes_in, data_fields, field_of, section_fields, trimmed};
-ghost use Rattle.mps_cards.specs.FieldList.{field_list};
+ghost use Rattle.mps_cards.specs.Inner.FieldList.{field_list};
 
 use crate::columns::{bytes_between, first_word, trim};
+use lp_text::LineFault;
 use std::alloc::{AllocError, Global};
 use std::marker::Model;
 use thiserror::Error;
@@ -33,12 +34,9 @@ pub enum CardFault {
     /// Memory ran out.
     #[error("out of memory")]
     Memory,
-    /// The line of this number has a byte outside 32 to 126 in its first 61 columns.
-    #[error("byte not printable at line {0}")]
-    NotAscii(u64),
-    /// The line of this number, a card of data, has a byte in this column, which no field covers. It is the least such.
-    #[error("column {1} not blank at line {0}")]
-    Columns(u64, u8),
+    /// The line of this number has this fault: `NotAscii`, or `Columns`.
+    #[error("line {0}: {1:?}")]
+    InLine(u64, LineFault),
 }
 
 impl From<AllocError> for CardFault {
@@ -68,7 +66,7 @@ impl Model for Fields {
 
     ghost Value = { List (List ℕ) };
 
-    ghost use Rattle.mps_cards.specs.FieldList.{field_list};
+    ghost use Rattle.mps_cards.specs.Inner.FieldList.{field_list};
 
     ghost view = { λ f. field_list f.kind f.text.items };
 }

@@ -1,5 +1,5 @@
 ghost use Rattle.std.specs.Prelude.{◌≡◌};
-ghost use Rattle.mps_cards.specs.declared.faults.LineFault.TheVariants as line_faults;
+ghost use Rattle.mps_cards.specs.declared.faults.ReadFault.TheVariants as read_faults;
 
 use io_ends::Failed;
 use std::alloc::AllocError;
@@ -7,7 +7,7 @@ use thiserror::Error;
 
 /// Why a reader gave no line. A reader that gave one gives it again at each later call.
 #[derive(Clone, Copy, Debug, PartialEq, Eq, Error)]
-pub enum LineFault {
+pub enum ReadFault {
     /// The source failed.
     #[error("reading failed")]
     Read,
@@ -19,18 +19,18 @@ pub enum LineFault {
     TooMany(u64),
 }
 
-impl From<Failed> for LineFault {
-    ghost from_gives = { λ _ fault. fault ≡ line_faults.Read };
+impl From<Failed> for ReadFault {
+    ghost from_gives = { λ _ fault. fault ≡ read_faults.Read };
 
-    fn from(_error: Failed) -> LineFault {
-        LineFault::Read
+    fn from(_error: Failed) -> ReadFault {
+        ReadFault::Read
     }
 }
 
-impl From<AllocError> for LineFault {
-    ghost from_gives = { λ _ fault. fault ≡ line_faults.Memory };
+impl From<AllocError> for ReadFault {
+    ghost from_gives = { λ _ fault. fault ≡ read_faults.Memory };
 
-    fn from(_error: AllocError) -> LineFault {
-        LineFault::Memory
+    fn from(_error: AllocError) -> ReadFault {
+        ReadFault::Memory
     }
 }

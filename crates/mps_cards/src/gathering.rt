@@ -1,9 +1,9 @@
 ghost use Rattle.std.specs.Prelude.{◌≡◌, ◌≤◌, ◌++◌, ◌||◌, take, length, vec_len, nat_lt, IfOk, IfErr, IfSome, IfNone, OnOk};
-ghost use Rattle.mps_cards.specs.Pieces.{Gathers, GathersNone, IsGatherFault, IsPieceFault, TakesPiece};
-ghost use Rattle.mps_cards.specs.Reading.{TakesAsNeeded};
+ghost use Rattle.mps_cards.specs.Inner.Pieces.{Gathers, GathersNone, IsGatherFault, IsPieceFault, TakesPiece};
+ghost use Rattle.mps_cards.specs.NextLine.{TakesAsNeeded};
 
 use crate::ahead::Ahead;
-use crate::faults::LineFault;
+use crate::faults::ReadFault;
 use crate::lines::{Line, LineBytes};
 use crate::places::first_place;
 use io_ends::Source;
@@ -51,7 +51,7 @@ impl Growing {
     }
 
     /// Takes the bytes that were read ahead through the line's end, or else all of them, and says whether the line ended.
-    fn take_from(&mut self, ahead: &mut Ahead, asked: Asked) -> Result<bool, LineFault>
+    fn take_from(&mut self, ahead: &mut Ahead, asked: Asked) -> Result<bool, ReadFault>
         requires few { vec_len self.old.bytes ≤ asked.keep }
         requires within { self.old.through ≤ asked.most }
         ensures ok { IfOk result (TakesPiece self.old self.new ahead.old ahead.new asked) }
@@ -63,7 +63,7 @@ impl Growing {
         let ended = end < bytes.len();
         let size = end + usize::from(ended);
         if asked.most - self.through < size as u64 {
-            return Err(LineFault::TooMany(asked.number));
+            return Err(ReadFault::TooMany(asked.number));
         }
         self.keep(&bytes[..end], asked.keep)?;
         self.through += size as u64;
@@ -104,7 +104,7 @@ pub(crate) fn gather<S: Source>(
     source: &mut S,
     since: u64,
     asked: Asked,
-) -> Result<Option<Gathered>, LineFault>
+) -> Result<Option<Gathered>, ReadFault>
     requires { since ≤ asked.most }
     ensures line { IfOk result (λ found. IfSome found
         (Gathers ahead.old ahead.new (S.remaining source.old) (S.remaining source.new) since asked)) }

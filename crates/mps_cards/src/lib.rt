@@ -32,11 +32,9 @@ mod line_reader;
 mod lines;
 mod places;
 mod splitting;
-#[cfg(test)]
-mod tests;
 
 pub use cards::{Card, CardFault, CardKind, Fields};
-pub use faults::LineFault;
+pub use faults::ReadFault;
 pub use line_reader::LineReader;
 pub use lines::{Line, LineBytes};
 pub use no_memory::Memory;

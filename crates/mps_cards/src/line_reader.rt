@@ -1,8 +1,8 @@
 ghost use Rattle.std.specs.Prelude.{◌≡◌, ◌≤◌, [], None, IfOk, IfErr, IfSome, IfNone, OnOk, OnSome};
-ghost use Rattle.mps_cards.specs.Reading.{AnswersEnd, AnswersLine, IsCause, TakesAsNeeded};
+ghost use Rattle.mps_cards.specs.NextLine.{AnswersEnd, AnswersLine, IsCause, TakesAsNeeded};
 
 use crate::ahead::Ahead;
-use crate::faults::LineFault;
+use crate::faults::ReadFault;
 use crate::gathering::{Asked, gather};
 use crate::lines::Line;
 use io_ends::Source;
@@ -17,7 +17,7 @@ pub struct LineReader {
     ahead: Ahead,
     count: u64,
     since: u64,
-    fault: Option<LineFault>,
+    fault: Option<ReadFault>,
 }
 
 impl Model for LineReader {
@@ -63,7 +63,7 @@ impl LineReader {
         source: &mut S,
         keep: usize,
         most: u64,
-    ) -> Result<Option<Line>, LineFault>
+    ) -> Result<Option<Line>, ReadFault>
         ensures line { IfOk result (λ answer. IfSome answer
             (AnswersLine self.old self.new (S.remaining source.old) (S.remaining source.new) keep most)) }
         ensures end { IfOk result (λ answer. IfNone answer
@@ -91,7 +91,7 @@ impl LineReader {
         }
         let number = self.count.saturating_add(1);
         if most < self.since {
-            return Err(self.refuse(LineFault::TooMany(number)));
+            return Err(self.refuse(ReadFault::TooMany(number)));
         }
         let asked = Asked { number, keep, most };
         match gather(self.alloc, &mut self.ahead, source, self.since, asked) {
@@ -106,7 +106,7 @@ impl LineReader {
     }
 
     /// Gives a fault from here on.
-    fn refuse(&mut self, fault: LineFault) -> LineFault
+    fn refuse(&mut self, fault: ReadFault) -> ReadFault
         ensures state { self.new ≡ record self.old { kept = []; fault = Some fault } }
         ensures same { result ≡ fault }
     {

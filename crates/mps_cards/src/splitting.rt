@@ -1,13 +1,14 @@
 ghost use Rattle.std.specs.Prelude.{◌≡◌, ◌≤◌, ℕ, IfOk, IfErr, IsTrue, length};
 ghost use Rattle.lp_text.specs.Cards.{card_in, card_of, without_return};
 ghost use Rattle.lp_text.specs.Lines.{Line as TextLine};
-ghost use Rattle.mps_cards.specs.FieldList.{field_list};
-ghost use Rattle.mps_cards.specs.Reading.{answered};
+ghost use Rattle.mps_cards.specs.Inner.FieldList.{field_list};
+ghost use Rattle.mps_cards.specs.NextLine.{answered};
 ghost use Rattle.mps_cards.specs.Splitting.{Says, judged};
 
 use crate::cards::{Card, CardFault, CardKind, Fields};
 use crate::columns::{byte_at, first_filled_gap, is_no_card, prints};
 use crate::lines::Line;
+use lp_text::LineFault;
 use std::alloc::Global;
 
 /// How many columns of a line count.
@@ -59,13 +60,13 @@ fn split_text(alloc: Global, text: &[u8], number: u64) -> Result<Option<Card>, C
         return Ok(None);
     }
     if !prints(text) {
-        return Err(CardFault::NotAscii(number));
+        return Err(CardFault::InLine(number, LineFault::NotAscii));
     }
     if byte_at(text, 1) != b' ' {
         return Ok(Some(card(alloc, text, CardKind::Section, number)?));
     }
     if let Some(column) = first_filled_gap(text) {
-        return Err(CardFault::Columns(number, column));
+        return Err(CardFault::InLine(number, LineFault::Columns(column)));
     }
     Ok(Some(card(alloc, text, CardKind::Data, number)?))
 }

@@ -3,10 +3,11 @@ use Rattle.std.proofs.Common.{◌≡◌, ◌≢◌, ℕ, suc, ◌+◌, List, [],
 use Rattle.std.proofs.lemmas.List.Elements.{All-append, All-nil, All-cons}
 use Rattle.std.proofs.lemmas.Bool.Decides.{eqb_tells}
 use Rattle.lp_text.specs.Lines.{Line, lines_of, size_of, whole_lines}
-use Rattle.lp_text.specs.LineText.{IsFreeOfFeeds}
+use Rattle.lp_text.specs.Inner.LineText.{IsFreeOfFeeds}
 use Rattle.lp_text.proofs.LinesLemmas.{ended, lines_of-ended, whole_lines-free}
 use Rattle.lp_model.specs.Deck.{Column}
-use Rattle.mps_model.specs.DeckSoFar.{DeckSoFar, LineFault, no_cards}
+use Rattle.lp_text.specs.declared.LineFault.{LineFault}
+use Rattle.mps_model.specs.DeckSoFar.{DeckSoFar, no_cards}
 use Rattle.mps_model.specs.Judgement.{has_finished, judge_line}
 use Rattle.mps_model.specs.DeckOf.{Reading, crossed_bounds, finished, has_fault, in_line, is_crossed, is_deck, no_end, no_objective, read_lines, reading_of}
 

@@ -1,13 +1,13 @@
 -- Worked decks, each with what it is or with its first fault.
-use Rattle.std.proofs.Common.{◌≡◌, ℕ, List, [], ◌∷◌, ◌++◌, Option, None, Some, pos, negsuc, ◌^◌, ◌*◌, set, take, drop, refl}
+use Rattle.std.proofs.Common.{ℕ, List, [], ◌∷◌, ◌++◌, Option, None, Some, pos, negsuc, ◌^◌, ◌*◌, set, take, drop, refl}
 use Rattle.std.specs.Prelude.{codes}
-use Rattle.rational.specs.Rational.{ℚ, eq_ℚ, fits_width, le_ℚ, lt_ℚ, neg_ℚ, ratio, whole, zero_ℚ, ◌*ℚ◌}
+use Rattle.rational.specs.Rational.{ℚ, eq_ℚ, le_ℚ, lt_ℚ, neg_ℚ, ratio, whole, zero_ℚ, ◌*ℚ◌}
+use Rattle.rational.specs.Width.{fits_width}
 use Rattle.lp_model.specs.Deck.{Deck, nonnegative}
+use Rattle.lp_model.specs.Edit.{new_deck}
 use Rattle.lp_model.specs.declared.RowKind.TheVariants.{L, G, E}
-use Rattle.lp_text.specs.Cards.{not_ascii}
 use Rattle.lp_text.specs.Lines.{text_of}
-use Rattle.lp_text.specs.PlainDeck.{read_plain, reads}
-use Rattle.mps_model.specs.DeckSoFar.{bound, in_card, integer, number, row_type, scattered, unknown_column, unknown_row}
+use Rattle.lp_text.specs.declared.LineFault.TheVariants as fault
 use Rattle.mps_model.specs.DeckOf.{HasFault, IsDeckOf, crossed_bounds, in_line, no_end, no_objective}
 
 -- ── a deck with all sections but ranges ──
@@ -39,16 +39,13 @@ testprob =
     ∷ []
 
 testprob_deck : Deck
-testprob_deck = record {
-  name = codes "TESTPROB";
-  objective = codes "COST";
+testprob_deck = record (new_deck (codes "TESTPROB") (codes "COST")) {
   rows = record { name = codes "LIM1"; kind = L; right = whole (pos 4); range = None }
       ∷ record { name = codes "LIM2"; kind = G; right = whole (pos 1); range = None }
       ∷ record { name = codes "MYEQN"; kind = E; right = whole (pos 7); range = None } ∷ [];
   columns = record { name = codes "XONE"; cost = whole (pos 1); entries = (0, whole (pos 1)) ∷ (1, whole (pos 1)) ∷ []; bounds = record { lower = Some zero_ℚ; upper = Some (whole (pos 4)) } }
       ∷ record { name = codes "YTWO"; cost = whole (pos 4); entries = (0, whole (pos 1)) ∷ (2, whole (negsuc 0)) ∷ []; bounds = record { lower = Some (whole (negsuc 0)); upper = Some (whole (pos 1)) } }
       ∷ record { name = codes "ZTHREE"; cost = whole (pos 9); entries = (1, whole (pos 1)) ∷ (2, whole (pos 1)) ∷ []; bounds = nonnegative } ∷ [];
-  constant = zero_ℚ;
 }
 
 testprob-read : IsDeckOf (text_of testprob) testprob_deck 21
@@ -61,22 +58,22 @@ unfolding whole zero_ℚ ratio ◌*ℚ◌ eq_ℚ lt_ℚ le_ℚ neg_ℚ fits_widt
 testprob-cut = refl
 
 -- an unknown row on line 9, before a number that is none on line 15
-unknown_row-first : HasFault (text_of (set (set testprob 8 (codes "    XONE      LIM9      1")) 14 (codes "    RHS       LIM1      4X             LIM2      1"))) (in_line 9 unknown_row)
+unknown_row-first : HasFault (text_of (set (set testprob 8 (codes "    XONE      LIM9      1")) 14 (codes "    RHS       LIM1      4X             LIM2      1"))) (in_line 9 fault.UnknownRow)
 unfolding whole zero_ℚ ratio ◌*ℚ◌ eq_ℚ lt_ℚ le_ℚ neg_ℚ fits_width
 unknown_row-first = refl
 
 -- a tab within the columns that count
-tab-refused : HasFault (text_of (set testprob 7 (codes "    XONE    " ++ 9 ∷ codes " COST      1              LIM1      1"))) (in_line 8 (in_card not_ascii))
+tab-refused : HasFault (text_of (set testprob 7 (codes "    XONE    " ++ 9 ∷ codes " COST      1              LIM1      1"))) (in_line 8 fault.NotAscii)
 unfolding whole zero_ℚ ratio ◌*ℚ◌ eq_ℚ lt_ℚ le_ℚ neg_ℚ fits_width
 tab-refused = refl
 
 -- a row of type Q
-type-refused : HasFault (text_of (set testprob 4 (codes " Q  LIM2"))) (in_line 5 row_type)
+type-refused : HasFault (text_of (set testprob 4 (codes " Q  LIM2"))) (in_line 5 fault.RowType)
 unfolding whole zero_ℚ ratio ◌*ℚ◌ eq_ℚ lt_ℚ le_ℚ neg_ℚ fits_width
 type-refused = refl
 
 -- a bound of kind BV
-binary-refused : HasFault (text_of (set testprob 17 (codes " BV BND       XONE      4"))) (in_line 18 integer)
+binary-refused : HasFault (text_of (set testprob 17 (codes " BV BND       XONE      4"))) (in_line 18 fault.Integer)
 unfolding whole zero_ℚ ratio ◌*ℚ◌ eq_ℚ lt_ℚ le_ℚ neg_ℚ fits_width
 binary-refused = refl
 
@@ -86,7 +83,7 @@ unfolding whole zero_ℚ ratio ◌*ℚ◌ eq_ℚ lt_ℚ le_ℚ neg_ℚ fits_widt
 crossed-refused = refl
 
 -- a card of XONE after those of YTWO
-scattered-refused : HasFault (text_of (take 11 testprob ++ (codes "    XONE      MYEQN     1") ∷ drop 11 testprob)) (in_line 12 scattered)
+scattered-refused : HasFault (text_of (take 11 testprob ++ (codes "    XONE      MYEQN     1") ∷ drop 11 testprob)) (in_line 12 fault.Scattered)
 unfolding whole zero_ℚ ratio ◌*ℚ◌ eq_ℚ lt_ℚ le_ℚ neg_ℚ fits_width
 scattered-refused = refl
 
@@ -136,12 +133,9 @@ with_right_side text =
     ∷ codes "ENDATA" ∷ []
 
 abbrev deck_of_right_side : ℚ → Deck
-deck_of_right_side v = record {
-  name = codes "T";
-  objective = codes "COST";
+deck_of_right_side v = record (new_deck (codes "T") (codes "COST")) {
   rows = record { name = codes "R1"; kind = L; right = v; range = None } ∷ [];
   columns = record { name = codes "X"; cost = whole (negsuc 0); entries = (0, whole (pos 1)) ∷ []; bounds = nonnegative } ∷ [];
-  constant = zero_ℚ;
 }
 
 right_side-read0 : IsDeckOf (text_of (with_right_side (codes "1.5E+1"))) (deck_of_right_side (whole (pos 15))) 10
@@ -160,19 +154,19 @@ right_side-read3 : IsDeckOf (text_of (with_right_side (codes "99999999E30"))) (d
 unfolding whole zero_ℚ ratio ◌*ℚ◌ eq_ℚ lt_ℚ le_ℚ neg_ℚ fits_width
 right_side-read3 = refl
 
-right_side-refused0 : HasFault (text_of (with_right_side (codes "1X"))) (in_line 9 number)
+right_side-refused0 : HasFault (text_of (with_right_side (codes "1X"))) (in_line 9 fault.Number)
 unfolding whole zero_ℚ ratio ◌*ℚ◌ eq_ℚ lt_ℚ le_ℚ neg_ℚ fits_width
 right_side-refused0 = refl
 
-right_side-refused1 : HasFault (text_of (with_right_side ([]))) (in_line 9 number)
+right_side-refused1 : HasFault (text_of (with_right_side ([]))) (in_line 9 fault.Number)
 unfolding whole zero_ℚ ratio ◌*ℚ◌ eq_ℚ lt_ℚ le_ℚ neg_ℚ fits_width
 right_side-refused1 = refl
 
-right_side-refused2 : HasFault (text_of (with_right_side (codes "1E31"))) (in_line 9 number)
+right_side-refused2 : HasFault (text_of (with_right_side (codes "1E31"))) (in_line 9 fault.Number)
 unfolding whole zero_ℚ ratio ◌*ℚ◌ eq_ℚ lt_ℚ le_ℚ neg_ℚ fits_width
 right_side-refused2 = refl
 
-right_side-refused3 : HasFault (text_of (with_right_side (codes "999999999E30"))) (in_line 9 number)
+right_side-refused3 : HasFault (text_of (with_right_side (codes "999999999E30"))) (in_line 9 fault.Number)
 unfolding whole zero_ℚ ratio ◌*ℚ◌ eq_ℚ lt_ℚ le_ℚ neg_ℚ fits_width
 right_side-refused3 = refl
 
@@ -192,12 +186,9 @@ with_bounds cards =
     ∷ cards ++ codes "ENDATA" ∷ []
 
 abbrev deck_of_bounds : Option ℚ → Option ℚ → Deck
-deck_of_bounds l u = record {
-  name = codes "T";
-  objective = codes "COST";
+deck_of_bounds l u = record (new_deck (codes "T") (codes "COST")) {
   rows = record { name = codes "R1"; kind = L; right = whole (pos 10); range = None } ∷ [];
   columns = record { name = codes "X"; cost = whole (negsuc 0); entries = (0, whole (pos 1)) ∷ []; bounds = record { lower = l; upper = u } } ∷ [];
-  constant = zero_ℚ;
 }
 
 -- an upper end of 10^30 is none
@@ -206,7 +197,7 @@ unfolding whole zero_ℚ ratio ◌*ℚ◌ eq_ℚ lt_ℚ le_ℚ neg_ℚ fits_widt
 infinite_upper = refl
 
 -- a lower end of 10^30
-infinite_lower : HasFault (text_of (with_bounds (codes " LO S         X         1E30" ∷ []))) (in_line 11 bound)
+infinite_lower : HasFault (text_of (with_bounds (codes " LO S         X         1E30" ∷ []))) (in_line 11 fault.Bound)
 unfolding whole zero_ℚ ratio ◌*ℚ◌ eq_ℚ lt_ℚ le_ℚ neg_ℚ fits_width
 infinite_lower = refl
 
@@ -231,26 +222,15 @@ unfolding whole zero_ℚ ratio ◌*ℚ◌ eq_ℚ lt_ℚ le_ℚ neg_ℚ fits_widt
 other_set = refl
 
 -- the kind is judged before the column
-unknown_kind : HasFault (text_of (with_bounds (codes " QQ S         Y         1X" ∷ []))) (in_line 11 bound)
+unknown_kind : HasFault (text_of (with_bounds (codes " QQ S         Y         1X" ∷ []))) (in_line 11 fault.Bound)
 unfolding whole zero_ℚ ratio ◌*ℚ◌ eq_ℚ lt_ℚ le_ℚ neg_ℚ fits_width
 unknown_kind = refl
 
 -- the column is judged before the number
-unknown_bounded : HasFault (text_of (with_bounds (codes " UP S         Y         1X" ∷ []))) (in_line 11 unknown_column)
+unknown_bounded : HasFault (text_of (with_bounds (codes " UP S         Y         1X" ∷ []))) (in_line 11 fault.UnknownColumn)
 unfolding whole zero_ℚ ratio ◌*ℚ◌ eq_ℚ lt_ℚ le_ℚ neg_ℚ fits_width
 unknown_bounded = refl
 
-bound_number-refused : HasFault (text_of (with_bounds (codes " UP S         X         1X" ∷ []))) (in_line 11 number)
+bound_number-refused : HasFault (text_of (with_bounds (codes " UP S         X         1X" ∷ []))) (in_line 11 fault.Number)
 unfolding whole zero_ℚ ratio ◌*ℚ◌ eq_ℚ lt_ℚ le_ℚ neg_ℚ fits_width
 bound_number-refused = refl
-
--- ── a deck in the plain form ──
-
--- the plain form and the columns read the same deck
-plain-read : read_plain (text_of (with_right_side (codes "10"))) ≡ reads (deck_of_right_side (whole (pos 10))) 10
-unfolding whole zero_ℚ ratio ◌*ℚ◌ eq_ℚ fits_width
-plain-read = refl
-
-columns-read : IsDeckOf (text_of (with_right_side (codes "10"))) (deck_of_right_side (whole (pos 10))) 10
-unfolding whole zero_ℚ ratio ◌*ℚ◌ eq_ℚ lt_ℚ le_ℚ neg_ℚ fits_width
-columns-read = refl

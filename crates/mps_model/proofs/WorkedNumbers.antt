@@ -1,8 +1,10 @@
 -- Worked number fields.
 use Rattle.std.proofs.Common.{◌≡◌, Ok, Err, [], pos, negsuc, ◌^◌, ◌*◌, refl}
 use Rattle.std.specs.Prelude.{codes}
-use Rattle.rational.specs.Rational.{fits_width, ratio, whole, ◌*ℚ◌}
-use Rattle.mps_model.specs.NumberField.{exponent, field_value, malformed, unfit}
+use Rattle.rational.specs.Rational.{ratio, whole, ◌*ℚ◌}
+use Rattle.rational.specs.Width.{fits_width}
+use Rattle.mps_model.specs.declared.FieldFault.TheVariants.{Exponent, Malformed, Unfit}
+use Rattle.mps_model.specs.NumberField.{field_value}
 
 point_and_exponent : field_value (codes "1.5E+1") ≡ Ok (whole (pos 15))
 unfolding whole ratio ◌*ℚ◌ fits_width
@@ -28,51 +30,51 @@ largest_read : field_value (codes "99999999E30") ≡ Ok (whole (pos (99999999 * 
 unfolding whole ratio ◌*ℚ◌ fits_width
 largest_read = refl
 
-too_wide : field_value (codes "999999999E30") ≡ Err unfit
+too_wide : field_value (codes "999999999E30") ≡ Err Unfit
 unfolding whole ratio ◌*ℚ◌ fits_width
 too_wide = refl
 
-large_exponent : field_value (codes "1E31") ≡ Err exponent
+large_exponent : field_value (codes "1E31") ≡ Err Exponent
 unfolding whole ratio ◌*ℚ◌ fits_width
 large_exponent = refl
 
 -- the exponent is judged before the value
-large_negative_exponent : field_value (codes "0D-31") ≡ Err exponent
+large_negative_exponent : field_value (codes "0D-31") ≡ Err Exponent
 unfolding whole ratio ◌*ℚ◌ fits_width
 large_negative_exponent = refl
 
-letter_after : field_value (codes "1X") ≡ Err malformed
+letter_after : field_value (codes "1X") ≡ Err Malformed
 unfolding whole ratio ◌*ℚ◌ fits_width
 letter_after = refl
 
-empty : field_value [] ≡ Err malformed
+empty : field_value [] ≡ Err Malformed
 empty = refl
 
-point_alone : field_value (codes ".") ≡ Err malformed
+point_alone : field_value (codes ".") ≡ Err Malformed
 unfolding whole ratio ◌*ℚ◌ fits_width
 point_alone = refl
 
-two_points : field_value (codes "1.2.3") ≡ Err malformed
+two_points : field_value (codes "1.2.3") ≡ Err Malformed
 unfolding whole ratio ◌*ℚ◌ fits_width
 two_points = refl
 
-no_exponent_digits : field_value (codes "1E+") ≡ Err malformed
+no_exponent_digits : field_value (codes "1E+") ≡ Err Malformed
 unfolding whole ratio ◌*ℚ◌ fits_width
 no_exponent_digits = refl
 
-no_digits : field_value (codes "E5") ≡ Err malformed
+no_digits : field_value (codes "E5") ≡ Err Malformed
 unfolding whole ratio ◌*ℚ◌ fits_width
 no_digits = refl
 
-two_signs : field_value (codes "--1") ≡ Err malformed
+two_signs : field_value (codes "--1") ≡ Err Malformed
 unfolding whole ratio ◌*ℚ◌ fits_width
 two_signs = refl
 
 -- what is no spelling has no exponent
-malformed_first : field_value (codes "1E31X") ≡ Err malformed
+malformed_first : field_value (codes "1E31X") ≡ Err Malformed
 unfolding whole ratio ◌*ℚ◌ fits_width
 malformed_first = refl
 
-inner_blank : field_value (codes "1 2") ≡ Err malformed
+inner_blank : field_value (codes "1 2") ≡ Err Malformed
 unfolding whole ratio ◌*ℚ◌ fits_width
 inner_blank = refl

@@ -3,25 +3,26 @@ use Rattle.std.specs.Prelude.{◌≡◌, ℕ, suc, ◌+◌, List, [], ◌∷◌,
 use Rattle.rational.specs.Rational.{ℚ, lt_ℚ}
 use Rattle.lp_model.specs.Deck.{Deck, Interval}
 use Rattle.lp_text.specs.Lines.{Line, lines_of, size_of, whole_lines}
-use Rattle.mps_model.specs.DeckSoFar.{DeckSoFar, LineFault, no_cards}
+use Rattle.lp_text.specs.declared.LineFault.{LineFault}
+use Rattle.mps_model.specs.DeckSoFar.{DeckSoFar, no_cards}
 use Rattle.mps_model.specs.Judgement.{has_finished, judge_line}
 
 -- ── faults and readings ──
 
--- what is wrong with a deck
-pub data DeckFault : Type 0 where
+-- what is wrong with a text
+pub data TextFault : Type 0 where
   -- the fault of the line of a number
-  in_line : ℕ → LineFault → DeckFault
-  no_objective : DeckFault
+  in_line : ℕ → LineFault → TextFault
+  no_objective : TextFault
   -- the column's lower end is above its upper end
-  crossed_bounds : List ℕ → DeckFault
+  crossed_bounds : List ℕ → TextFault
   -- the deck does not end within so many lines
-  no_end : ℕ → DeckFault
+  no_end : ℕ → TextFault
 
 -- a deck with the number of the line that ends it, or the first fault
 pub data Reading : Type 0 where
   is_deck : Deck → ℕ → Reading
-  has_fault : DeckFault → Reading
+  has_fault : TextFault → Reading
 
 -- ── the end of the deck ──
 
@@ -63,7 +64,7 @@ abbrev pub IsDeckOf : List ℕ → Deck → ℕ → Type 0
 IsDeckOf text d line = reading_of text ≡ is_deck d line
 
 -- the text has this first fault
-abbrev pub HasFault : List ℕ → DeckFault → Type 0
+abbrev pub HasFault : List ℕ → TextFault → Type 0
 HasFault text fault = reading_of text ≡ has_fault fault
 
 -- no line that stands whole in the text has a fault, and none ends the deck

@@ -1,42 +1,12 @@
--- The deck so far: what the cards before a line have come to, and the faults that a card may have after them.
+-- The deck so far: what the cards before a line have come to.
 use Rattle.std.specs.Prelude.{ℕ, List, [], ◌∷◌, Option, Some, None, Result, Ok, Err, Bool, if◌then◌else◌}
 use Rattle.std.specs.List.{list_any}
 use Rattle.lp_model.specs.Deck.{Deck}
 use Rattle.lp_model.specs.Edit.{find_row, new_deck, same_bytes}
-use Rattle.lp_text.specs.Cards.{CardFault}
-use Rattle.mps_model.specs.Sections.{Section}
+use Rattle.lp_text.specs.declared.LineFault.{LineFault}
+use Rattle.mps_model.specs.declared.Section.{Section}
 
--- ── faults ──
-
--- what a limit counts
-pub data Counted : Type 0 where
-  of_rows : Counted
-  of_columns : Counted
-  of_entries : Counted
-  of_bytes : Counted
-
--- what is wrong with a line
-pub data LineFault : Type 0 where
-  -- a count passes its limit
-  limit : Counted → LineFault
-  -- a byte that does not print, or a column between two fields that is not blank
-  in_card : CardFault → LineFault
-  -- an unknown section, one out of its order, or a card of data where no section admits one
-  section : LineFault
-  -- a row's type that is none of N, L, G and E
-  row_type : LineFault
-  unknown_row : LineFault
-  unknown_column : LineFault
-  -- a row that was given, or named, before
-  repeated : LineFault
-  -- the cards of a column do not stand together
-  scattered : LineFault
-  -- a number field without a value
-  number : LineFault
-  -- an unknown kind of bound, or an infinity that the kind does not admit
-  bound : LineFault
-  -- an integer or semicontinuous column
-  integer : LineFault
+-- ── steps ──
 
 -- a step that is taken where the first one has no fault
 abbrev pub and_then : {T U : Type 0} → Result T LineFault → (T → Result U LineFault) → Result U LineFault

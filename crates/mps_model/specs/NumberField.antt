@@ -1,14 +1,11 @@
 -- Number fields: a decimal number with an exponent of ten, as an exact fraction, or its fault.
 use Rattle.std.specs.Prelude.{ℕ, ◌^◌, List, [], ◌∷◌, ◌++◌, length, take_while, drop, Option, Some, None, Result, Ok, Err, Bool, false, ◌&&◌, ◌||◌, ◌==◌, nat_le, nat_lt, if◌then◌else◌, ℤ, pos, negsuc, suc, neg_ℤ, nat_abs}
 use Rattle.std.specs.List.{list_all}
-use Rattle.rational.specs.Rational.{ℚ, fits_width, ratio, whole, ◌*ℚ◌}
-use Rattle.lp_text.specs.PlainCards.{digits_value, is_digit}
-
--- no number's spelling, an exponent of a size above 30, or a value that does not fit 127 bits; found in this order
-pub data FieldFault : Type 0 where
-  malformed : FieldFault
-  exponent : FieldFault
-  unfit : FieldFault
+use Rattle.rational.specs.Rational.{ℚ, ratio, whole, ◌*ℚ◌}
+use Rattle.rational.specs.Width.{fits_width, full_width}
+use Rattle.lp_text.specs.Digits.{digits_value, is_digit}
+use Rattle.mps_model.specs.declared.FieldFault.{FieldFault}
+use Rattle.mps_model.specs.declared.FieldFault.TheVariants.{Exponent, Malformed, Unfit}
 
 -- ── the parts of a spelling ──
 
@@ -81,19 +78,19 @@ spelled_value text e =
     let body = unsigned text in
     ratio (signed (is_negative text) (digits_value (all_digits body))) (10 ^ length (decimals body)) *ℚ power_of_ten e
 
--- a value, where its numerator's size and its denominator are below 2^127
+-- a value, where it fits the arithmetic
 abbrev pub fitting : ℚ → Result ℚ FieldFault
-fitting v = if fits_width 127 v then Ok v else Err unfit
+fitting v = if fits_width full_width v then Ok v else Err Unfit
 
 -- the value of a spelling with this exponent
 abbrev pub value_with : List ℕ → ℤ → Result ℚ FieldFault
-value_with text e = if nat_lt 30 (nat_abs e) then Err exponent else fitting (spelled_value text e)
+value_with text e = if nat_lt 30 (nat_abs e) then Err Exponent else fitting (spelled_value text e)
 
 -- the value of a number field, or its first fault
 abbrev pub field_value : List ℕ → Result ℚ FieldFault
 field_value text =
     let body = unsigned text in
     elim (exponent_of (after_decimals body)) [
-      | None ↦ Err malformed
-      | Some e ↦ if nat_lt 0 (length (all_digits body)) then value_with text e else Err malformed
+      | None ↦ Err Malformed
+      | Some e ↦ if nat_lt 0 (length (all_digits body)) then value_with text e else Err Malformed
     ]

@@ -4,9 +4,12 @@ use Rattle.std.specs.Option.{unwrap_or}
 use Rattle.rational.specs.Rational.{ℚ, eq_ℚ, neg_ℚ, zero_ℚ}
 use Rattle.lp_model.specs.Edit.{entry_count, find_column, same_bytes, with_column, with_constant, with_cost, with_entry, with_range, with_right}
 use Rattle.lp_text.specs.Cards.{field_of}
-use Rattle.lp_text.specs.PlainDeck.{column_limit, entry_limit}
+use Rattle.lp_text.specs.Limits.{column_limit, entry_limit}
+use Rattle.lp_text.specs.declared.Counted.TheVariants as counted
+use Rattle.lp_text.specs.declared.LineFault.{LineFault}
+use Rattle.lp_text.specs.declared.LineFault.TheVariants as fault
 use Rattle.mps_model.specs.NumberField.{field_value}
-use Rattle.mps_model.specs.DeckSoFar.{DeckSoFar, LineFault, RowPlace, and_then, dropped, integer, is_among, limit, number, objective, of_columns, of_entries, place_of, repeated, row, scattered, unknown_row}
+use Rattle.mps_model.specs.DeckSoFar.{DeckSoFar, RowPlace, and_then, dropped, is_among, objective, place_of, row}
 
 -- ── pairs ──
 
@@ -16,7 +19,7 @@ UseOfNumber = DeckSoFar → RowPlace → ℚ → Result DeckSoFar LineFault
 
 -- the number in a field
 abbrev pub number_in : List ℕ → Result ℚ LineFault
-number_in text = elim (field_value text) [ Err fault ↦ Err number | Ok v ↦ Ok v ]
+number_in text = elim (field_value text) [ Err why ↦ Err fault.Number | Ok v ↦ Ok v ]
 
 -- the deck so far with a row named
 abbrev pub with_named : DeckSoFar → List ℕ → DeckSoFar
@@ -26,8 +29,8 @@ with_named s name = record s { named = name ∷ s.named }
 abbrev pub judge_pair : UseOfNumber → DeckSoFar → List ℕ → List ℕ → Result DeckSoFar LineFault
 judge_pair use_number s name text =
     elim (place_of s name) [
-      | None ↦ Err unknown_row
-      | Some place ↦ if is_among name s.named then Err repeated else and_then (number_in text) (λ v. use_number (with_named s name) place v)
+      | None ↦ Err fault.UnknownRow
+      | Some place ↦ if is_among name s.named then Err fault.Repeated else and_then (number_in text) (λ v. use_number (with_named s name) place v)
     ]
 
 -- a second pair is there where one of its fields is not empty
@@ -52,22 +55,22 @@ has_room s v = eq_ℚ v zero_ℚ || nat_lt (entry_count s.deck) entry_limit
 
 -- a number of the last column: a cost or an entry
 abbrev pub use_in_column : UseOfNumber
-use_in_column s objective v = if has_room s v then Ok (record s { deck = with_cost s.deck (length s.deck.columns - 1) v }) else Err (limit of_entries)
-use_in_column s (row i) v = if has_room s v then Ok (record s { deck = with_entry s.deck (length s.deck.columns - 1) i v }) else Err (limit of_entries)
+use_in_column s objective v = if has_room s v then Ok (record s { deck = with_cost s.deck (length s.deck.columns - 1) v }) else Err (fault.Limit counted.Entries)
+use_in_column s (row i) v = if has_room s v then Ok (record s { deck = with_entry s.deck (length s.deck.columns - 1) i v }) else Err (fault.Limit counted.Entries)
 use_in_column s dropped v = Ok s
 
 -- a new column, which has named no row
 abbrev pub begin_column : DeckSoFar → List ℕ → Result DeckSoFar LineFault
-begin_column s name = if nat_lt (length s.deck.columns) column_limit then Ok (record s { deck = with_column s.deck name; named = [] }) else Err (limit of_columns)
+begin_column s name = if nat_lt (length s.deck.columns) column_limit then Ok (record s { deck = with_column s.deck name; named = [] }) else Err (fault.Limit counted.Columns)
 
 -- the column of a card: the last one, or a new one; one before the last is scattered
 abbrev pub at_column : DeckSoFar → List ℕ → Result DeckSoFar LineFault
-at_column s name = elim (find_column s.deck name) [ None ↦ begin_column s name | Some j ↦ if j + 1 == length s.deck.columns then Ok s else Err scattered ]
+at_column s name = elim (find_column s.deck name) [ None ↦ begin_column s name | Some j ↦ if j + 1 == length s.deck.columns then Ok s else Err fault.Scattered ]
 
 -- a card of a column: an integer marker, the column, then the pairs
 abbrev pub judge_column : DeckSoFar → List (List ℕ) → Result DeckSoFar LineFault
 judge_column s fields =
-    if is_marker (field_of fields 3) || is_marker (field_of fields 4) then Err integer
+    if is_marker (field_of fields 3) || is_marker (field_of fields 4) then Err fault.Integer
     else and_then (at_column s (field_of fields 2)) (λ after. judge_pairs use_in_column after fields)
 
 -- ── right sides and ranges ──

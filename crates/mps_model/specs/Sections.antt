@@ -2,30 +2,22 @@
 use Rattle.std.specs.Prelude.{ℕ, List, [], ◌∷◌, Option, Bool, true, false, ◌&&◌, find, not, codes}
 use Rattle.std.specs.List.{list_any}
 use Rattle.lp_model.specs.Edit.{same_bytes}
-
--- a section, by what its cards give; the last one ends the deck
-pub data Section : Type 0 where
-  title : Section
-  rows : Section
-  columns : Section
-  right_sides : Section
-  ranges : Section
-  bounds : Section
-  finish : Section
+use Rattle.mps_model.specs.declared.Section.{Section}
+use Rattle.mps_model.specs.declared.Section.TheVariants.{Bounds, Columns, Finish, Ranges, RightSides, Rows, Title}
 
 -- the word of a section's card
 abbrev pub word_of : Section → List ℕ
-word_of title = codes "NAME"
-word_of rows = codes "ROWS"
-word_of columns = codes "COLUMNS"
-word_of right_sides = codes "RHS"
-word_of ranges = codes "RANGES"
-word_of bounds = codes "BOUNDS"
-word_of finish = codes "ENDATA"
+word_of Title = codes "NAME"
+word_of Rows = codes "ROWS"
+word_of Columns = codes "COLUMNS"
+word_of RightSides = codes "RHS"
+word_of Ranges = codes "RANGES"
+word_of Bounds = codes "BOUNDS"
+word_of Finish = codes "ENDATA"
 
 -- all sections
 abbrev pub sections : List Section
-sections = title ∷ rows ∷ columns ∷ right_sides ∷ ranges ∷ bounds ∷ finish ∷ []
+sections = Title ∷ Rows ∷ Columns ∷ RightSides ∷ Ranges ∷ Bounds ∷ Finish ∷ []
 
 -- the section of a word
 abbrev pub section_of : List ℕ → Option Section
@@ -37,11 +29,11 @@ has_begun section begun = list_any (λ s. same_bytes (word_of s) (word_of sectio
 
 -- whether a section may begin after those that have: the title first or never, the rows once, then the columns once, then the others, each at most once and in any order
 abbrev pub may_begin : Section → List Section → Bool
-may_begin title [] = true
-may_begin title (s ∷ begun) = false
-may_begin rows begun = not (has_begun rows begun)
-may_begin columns begun = has_begun rows begun && not (has_begun columns begun)
-may_begin right_sides begun = has_begun columns begun && not (has_begun right_sides begun)
-may_begin ranges begun = has_begun columns begun && not (has_begun ranges begun)
-may_begin bounds begun = has_begun columns begun && not (has_begun bounds begun)
-may_begin finish begun = has_begun columns begun
+may_begin Title [] = true
+may_begin Title (s ∷ begun) = false
+may_begin Rows begun = not (has_begun Rows begun)
+may_begin Columns begun = has_begun Rows begun && not (has_begun Columns begun)
+may_begin RightSides begun = has_begun Columns begun && not (has_begun RightSides begun)
+may_begin Ranges begun = has_begun Columns begun && not (has_begun Ranges begun)
+may_begin Bounds begun = has_begun Columns begun && not (has_begun Bounds begun)
+may_begin Finish begun = has_begun Columns begun

@@ -3,32 +3,36 @@ use Rattle.std.proofs.Common.{◌≡◌, ℕ, List, [], ◌∷◌, Option, Some,
 use Rattle.std.specs.Result.{IfErr, IsErrOf, MatchResult}
 use Rattle.lp_model.specs.Deck.{Column, Deck}
 use Rattle.mps_cards.specs.ReaderState.{ReaderState}
-use Rattle.mps_model.specs.DeckSoFar.{DeckSoFar, LineFault, bound, in_card, integer, limit, number, of_bytes, of_columns, of_entries, of_rows, repeated, row_type, scattered, section, unknown_column, unknown_row}
-use Rattle.mps_model.specs.DeckOf.{DeckFault as TextFault, crossed_bounds, finished, has_fault, in_line, is_crossed, is_deck, no_objective}
+use Rattle.lp_text.specs.declared.LineFault.{LineFault}
+use Rattle.lp_text.specs.declared.LineFault.TheVariants.{Bound, Columns, Integer, Limit, NotAscii, Number, Repeated, RowType, Scattered, Section, UnknownColumn, UnknownRow}
+use Rattle.lp_text.specs.declared.Counted.TheVariants as counted
+use Rattle.mps_model.specs.DeckSoFar.{DeckSoFar}
+use Rattle.mps_model.specs.DeckOf.{TextFault, crossed_bounds, finished, has_fault, in_line, is_crossed, is_deck, no_objective}
 use Rattle.mps_reader.specs.declared.faults.DeckFault.{DeckFault}
 use Rattle.mps_reader.specs.declared.faults.DeckFault.TheVariants as fault
 use Rattle.mps_reader.specs.Answers.{HasAnswered, StandsAfter, StandsAt}
-use Rattle.mps_reader.specs.Reached.{IsFoundAt}
-use Rattle.mps_reader.specs.Refusals.{text_fault}
+use Rattle.mps_reader.specs.Inner.Reached.{IsFoundAt}
+use Rattle.mps_reader.specs.Faults.{text_fault}
 use Rattle.mps_reader.proofs.CardFaults.{IsOfCard, JudgesCard}
 
 -- ── the fault of a card ──
 
 behind : (n : ℕ) (found : LineFault) (reader : ReaderState) → IsOfCard found → HasAnswered n reader → StandsAt (in_line n found) reader
-behind n (limit of_rows) reader of_card h = h
-behind n (limit of_columns) reader of_card h = h
-behind n (limit of_entries) reader of_card h = h
-behind n (limit of_bytes) reader of_card h = absurd (of_card)
-behind n (in_card f) reader of_card h = h
-behind n section reader of_card h = h
-behind n row_type reader of_card h = h
-behind n unknown_row reader of_card h = h
-behind n unknown_column reader of_card h = h
-behind n repeated reader of_card h = h
-behind n scattered reader of_card h = h
-behind n number reader of_card h = h
-behind n bound reader of_card h = h
-behind n integer reader of_card h = h
+behind n (Limit counted.Rows) reader of_card h = h
+behind n (Limit counted.Columns) reader of_card h = h
+behind n (Limit counted.Entries) reader of_card h = h
+behind n (Limit counted.Bytes) reader of_card h = absurd of_card
+behind n NotAscii reader of_card h = h
+behind n (Columns column) reader of_card h = h
+behind n Section reader of_card h = h
+behind n RowType reader of_card h = h
+behind n UnknownRow reader of_card h = h
+behind n UnknownColumn reader of_card h = h
+behind n Repeated reader of_card h = h
+behind n Scattered reader of_card h = h
+behind n Number reader of_card h = h
+behind n Bound reader of_card h = h
+behind n Integer reader of_card h = h
 
 some_weaker : {X : Type 0} (o : Option X) (P Q : X → Type 0) → ((x : X) → P x → Q x) → IfSome o P → IfSome o Q
 some_weaker None P Q f h = h

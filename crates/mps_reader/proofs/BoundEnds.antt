@@ -3,8 +3,8 @@ use Rattle.std.specs.Prelude.{◌≡◌, Bool, cond, ◌&&◌, not, Option, Some
 use Rattle.std.specs.Ordering.{is_le, is_lt}
 use Rattle.std.proofs.Common.{◌∙◌, ap}
 use Rattle.rational.specs.Rational.{ℚ, cmp_ℚ, le_ℚ, lt_ℚ, neg_ℚ, zero_ℚ}
+use Rattle.rational.proofs.OrderLaws.{is_le-cmp_ℚ, is_lt-cmp_ℚ}
 use Rattle.mps_model.specs.BoundCards.{infinity, is_minus_infinity, is_plus_infinity, lower_end, upper_end}
-use Rattle.mps_reader.proofs.Comparisons.{is_le-cmp_ℚ, is_lt-cmp_ℚ}
 
 -- ── comparisons with ∞ and with -∞ ──
 

@@ -6,23 +6,23 @@ use Rattle.std.proofs.lemmas.List.Quantifiers.{position-Some}
 use Rattle.lp_model.specs.Deck.{Column, Deck, column, no_column}
 use Rattle.lp_model.specs.Edit.{find_column, same_bytes, with_bounds}
 use Rattle.mps_reader.specs.declared.bounds.Ends.{Ends}
-use Rattle.mps_reader.specs.Standing.{bounds_of, deck_with, is_lowered, with_ends}
+use Rattle.mps_reader.specs.Inner.Standing.{interval_of, deck_with, is_lowered, with_ends}
 
 -- ── lists ──
 
 -- other ends at j are other bounds of column j
 pub with_ends-set : (cs : List Column) (ends : List Ends) (j : ℕ) (e : Ends) → j < length ends
-    → set (with_ends cs ends) j (record (get_or (with_ends cs ends) j no_column) { bounds = bounds_of e }) ≡ with_ends cs (set ends j e)
+    → set (with_ends cs ends) j (record (get_or (with_ends cs ends) j no_column) { bounds = interval_of e }) ≡ with_ends cs (set ends j e)
 with_ends-set [] ends j e h = refl
 with_ends-set (c ∷ cs) [] j e h = absurd (omega (arith, h))
 with_ends-set (c ∷ cs) (x ∷ ends) zero e h = refl
 with_ends-set (c ∷ cs) (x ∷ ends) (suc j) e h =
     let less : j < length ends = omega (arith, h) in
-    ap (λ l. record c { bounds = bounds_of x } ∷ l) (with_ends-set cs ends j e less)
+    ap (λ l. record c { bounds = interval_of x } ∷ l) (with_ends-set cs ends j e less)
 
 -- the bounds of column j are between the ends at j
 pub bounds-with_ends : (cs : List Column) (ends : List Ends) (j : ℕ) (e : Ends) → j < length ends → j < length cs
-    → (get_or (with_ends cs ends) j no_column).bounds ≡ bounds_of (get_or ends j e)
+    → (get_or (with_ends cs ends) j no_column).bounds ≡ interval_of (get_or ends j e)
 bounds-with_ends [] ends j e h k = absurd (omega (arith, k))
 bounds-with_ends (c ∷ cs) [] j e h k = absurd (omega (arith, h))
 bounds-with_ends (c ∷ cs) (x ∷ ends) zero e h k = refl
@@ -75,10 +75,10 @@ lowered-set false lowered ends j e h k same i = same i ∙ lowered_after false e
 -- ── decks ──
 
 module _ (d : Deck) (free_rows : List (List ℕ)) (ends : List Ends) (j : ℕ) (inside : j < length ends) where
-  pub deck_with-bounds : (e : Ends) → j < length d.columns → (column (deck_with d free_rows ends) j).bounds ≡ bounds_of (get_or ends j e)
+  pub deck_with-bounds : (e : Ends) → j < length d.columns → (column (deck_with d free_rows ends) j).bounds ≡ interval_of (get_or ends j e)
   deck_with-bounds e h = bounds-with_ends d.columns ends j e inside h
 
-  pub deck_with-set : (e : Ends) → with_bounds (deck_with d free_rows ends) j (bounds_of e) ≡ deck_with d free_rows (set ends j e)
+  pub deck_with-set : (e : Ends) → with_bounds (deck_with d free_rows ends) j (interval_of e) ≡ deck_with d free_rows (set ends j e)
   deck_with-set e = ap (λ cs. record (deck_with d free_rows ends) { columns = cs }) (with_ends-set d.columns ends j e inside)
 
 pub column_within : (d : Deck) (name : List ℕ) (j : ℕ) → find_column d name ≡ Some j → j < length d.columns

@@ -7,11 +7,14 @@ use Rattle.rational.specs.Rational.{ℚ}
 use Rattle.lp_model.specs.Deck.{column}
 use Rattle.lp_model.specs.Edit.{find_column, with_bounds}
 use Rattle.lp_text.specs.Cards.{field_of}
-use Rattle.mps_model.specs.DeckSoFar.{DeckSoFar, LineFault, and_then, unknown_column}
-use Rattle.mps_model.specs.BoundCards.{BoundKind, bound_number, bounds_after, judge_bound, judge_bound_of, kind_of, sets_lower, with_bound}
+use Rattle.lp_text.specs.declared.LineFault.{LineFault}
+use Rattle.lp_text.specs.declared.LineFault.TheVariants as fault
+use Rattle.mps_model.specs.DeckSoFar.{DeckSoFar, and_then}
+use Rattle.mps_model.specs.declared.BoundKind.{BoundKind}
+use Rattle.mps_model.specs.BoundCards.{bound_number, bounds_after, judge_bound, judge_bound_of, kind_of, sets_lower, with_bound}
 use Rattle.mps_reader.specs.declared.bounds.Ends.{Ends}
 use Rattle.mps_reader.specs.declared.draft.Draft.{Draft}
-use Rattle.mps_reader.specs.Standing.{IsFound, Stands, bounds_of, deck_with, is_lowered}
+use Rattle.mps_reader.specs.Inner.Standing.{IsFound, Stands, interval_of, deck_with, is_lowered}
 use Rattle.mps_reader.proofs.BoundSet.{deck_with-bounds, deck_with-set, is_lowered-get, lowered-set}
 use Rattle.mps_reader.proofs.CardSteps.{first_found}
 
@@ -23,15 +26,15 @@ module _ (s : DeckSoFar) (fields : List (List ℕ)) (word name : List ℕ) (kind
   of_kind = ap (λ r. and_then r (λ k. judge_bound_of s k fields)) (ap kind_of (sym first) ∙ known)
 
   by_column : (place : Option ℕ) → place ≡ find_column s.deck name → judge_bound_of s kind fields ≡ elim place [
-    | None ↦ Err unknown_column
+    | None ↦ Err fault.UnknownColumn
     | Some j ↦ and_then (bound_number kind (field_of fields 4)) (λ v. Ok (with_bound s kind j v))
   ]
   by_column place h = ap (λ p. elim p [
-    | None ↦ Err unknown_column
+    | None ↦ Err fault.UnknownColumn
     | Some j ↦ and_then (bound_number kind (field_of fields 4)) (λ v. Ok (with_bound s kind j v))
   ]) (ap (find_column s.deck) (sym third) ∙ sym h)
 
-  pub unknown_here : None ≡ find_column s.deck name → judge_bound s fields ≡ Err unknown_column
+  pub unknown_here : None ≡ find_column s.deck name → judge_bound s fields ≡ Err fault.UnknownColumn
   unknown_here h = of_kind ∙ by_column None h
 
   module _ (j : ℕ) (here : Some j ≡ find_column s.deck name) (text : List ℕ) (fourth : text ≡ field_of fields 4) where
@@ -49,7 +52,7 @@ module _ (s : DeckSoFar) (fields : List (List ℕ)) (word name : List ℕ) (kind
 module _ (draft : Draft) (s : DeckSoFar) (h : Stands draft s) where
   module _ (kind : BoundKind) (v : ℚ) (j : ℕ) (old new : Ends) (inside : j < length draft.deck.columns)
       (was : old ≡ get_or draft.bounds.items j old)
-      (ends : bounds_of new ≡ bounds_after kind v old.is_lowered (bounds_of old))
+      (ends : interval_of new ≡ bounds_after kind v old.is_lowered (interval_of old))
       (low : new.is_lowered ≡ (sets_lower kind || old.is_lowered)) where
     within_ends : j < length draft.bounds.items
     within_ends = subst (λ n. j < n) (sym h.bounded) inside
@@ -57,12 +60,12 @@ module _ (draft : Draft) (s : DeckSoFar) (h : Stands draft s) where
     was_lowered : old.is_lowered ≡ is_lowered draft.bounds.items j
     was_lowered = ap (λ (e : Ends). e.is_lowered) was ∙ sym (is_lowered-get draft.bounds.items j old within_ends)
 
-    before : (column s.deck j).bounds ≡ bounds_of old
+    before : (column s.deck j).bounds ≡ interval_of old
     before =
         ap (λ d. (column d j).bounds) h.deck ∙ deck_with-bounds draft.deck draft.free_rows.keys draft.bounds.items j within_ends old inside
-        ∙ ap bounds_of (sym was)
+        ∙ ap interval_of (sym was)
 
-    new_bounds : bounds_after kind v (list_any (λ k. k == j) s.lowered) (column s.deck j).bounds ≡ bounds_of new
+    new_bounds : bounds_after kind v (list_any (λ k. k == j) s.lowered) (column s.deck j).bounds ≡ interval_of new
     new_bounds = ap₂ (bounds_after kind v) (h.lowered j ∙ sym was_lowered) before ∙ sym ends
 
     new_deck : with_bounds s.deck j (bounds_after kind v (list_any (λ k. k == j) s.lowered) (column s.deck j).bounds)

@@ -3,7 +3,8 @@ use Rattle.std.specs.Prelude.{◌≡◌, ◌≢◌, ℕ, suc, List, [], ◌∷�
 use Rattle.std.proofs.Common.{refl, ap}
 use Rattle.std.proofs.Math.Bool.{and-false}
 use Rattle.lp_model.specs.Edit.{same_bytes}
-use Rattle.mps_model.specs.DeckSoFar.{bound, is_among}
+use Rattle.lp_text.specs.declared.LineFault.TheVariants as fault
+use Rattle.mps_model.specs.DeckSoFar.{is_among}
 use Rattle.mps_model.specs.BoundCards.{integer_kinds, kind_of}
 
 -- words of other lengths are other words
@@ -17,7 +18,7 @@ no_integer_kind : (word : List ℕ) → length word ≢ 2 → is_among word inte
 no_integer_kind word h = rw (unequal word (codes "BV") h) (rw (unequal word (codes "LI") h) (rw (unequal word (codes "UI") h) (rw (unequal word (codes "SC") h) refl)))
 
 -- each kind has two letters
-pub no_kind : (word : List ℕ) → length word ≢ 2 → kind_of word ≡ Err bound
+pub no_kind : (word : List ℕ) → length word ≢ 2 → kind_of word ≡ Err fault.Bound
 no_kind word h =
     rw (unequal word (codes "UP") h) (rw (unequal word (codes "LO") h) (rw (unequal word (codes "FX") h)
     (rw (unequal word (codes "FR") h) (rw (unequal word (codes "MI") h) (rw (unequal word (codes "PL") h)

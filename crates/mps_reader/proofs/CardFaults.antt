@@ -1,21 +1,31 @@
 -- A fault of a card is never the limit of bytes.
-use Rattle.std.specs.Prelude.{ℕ, ◌+◌, List, [], ◌∷◌, length, Option, Some, None, IfErr, Result, Ok, Err, Bool, true, false, cond, ◌||◌, ◌==◌, is_some, nat_lt, codes}
+use Rattle.std.specs.Prelude.{ℕ, ◌+◌, List, [], ◌∷◌, length, Option, Some, None, IfErr, Result, Ok, Err, Bool, true, false, cond, ◌||◌, ◌==◌, is_some, nat_lt, not, codes}
 use Rattle.std.specs.Option.{unwrap_or}
 use Rattle.rational.specs.Rational.{ℚ}
 use Rattle.lp_model.specs.Edit.{find_column, same_bytes}
-use Rattle.lp_text.specs.Cards.{Card, CardFault, card_of, field_of}
-use Rattle.lp_text.specs.PlainDeck.{column_limit, row_limit}
-use Rattle.mps_model.specs.BoundCards.{BoundKind, bound_number, has_number, integer_kinds, is_wrong_infinity, judge_bound, judge_bound_of, kind_of, with_bound}
-use Rattle.mps_model.specs.DeckSoFar.{DeckSoFar, LineFault, RowPlace, and_then, dropped, in_card, is_among, limit, number, objective, of_bytes, place_of, repeated, row, row_type, scattered, section, unknown_column, unknown_row}
+use Rattle.lp_text.specs.Cards.{Card, byte_in, card_in, card_of, counted, data_card, field_of, filled_gap, is_blank, is_ignored, is_printable}
+use Rattle.std.specs.List.{list_all}
+use Rattle.lp_text.specs.Limits.{column_limit, row_limit}
+use Rattle.mps_model.specs.declared.BoundKind.{BoundKind}
+use Rattle.mps_model.specs.BoundCards.{bound_number, has_number, integer_kinds, is_wrong_infinity, judge_bound, judge_bound_of, kind_of, with_bound}
+use Rattle.lp_text.specs.declared.LineFault.{LineFault}
+use Rattle.lp_text.specs.declared.LineFault.TheVariants as fault
+use Rattle.lp_text.specs.declared.Counted.TheVariants as counted
+use Rattle.mps_model.specs.DeckSoFar.{DeckSoFar, RowPlace, and_then, dropped, is_among, objective, place_of, row}
 use Rattle.mps_model.specs.Judgement.{begin_section, judge_card, judge_columns, judge_data, judge_section}
-use Rattle.mps_model.specs.NumberField.{FieldFault, field_value}
+use Rattle.mps_model.specs.declared.FieldFault.{FieldFault}
+use Rattle.mps_model.specs.NumberField.{field_value}
 use Rattle.mps_model.specs.PairCards.{UseOfNumber, at_column, begin_column, has_room, has_second_pair, is_marker, judge_column, judge_in_set, judge_pair, judge_pairs, number_in, use_as_range, use_as_right, use_in_column, with_named, with_set}
-use Rattle.mps_model.specs.RowCards.{RowType, free, judge_row, kept, row_type_of, with_row_of}
-use Rattle.mps_model.specs.Sections.{Section, bounds, columns, finish, may_begin, ranges, right_sides, rows, section_of, title}
+use Rattle.mps_model.specs.declared.RowType.{RowType}
+use Rattle.mps_model.specs.declared.RowType.TheVariants.{Free, Kept}
+use Rattle.mps_model.specs.RowCards.{judge_row, row_type_of, with_row_of}
+use Rattle.mps_model.specs.declared.Section.{Section}
+use Rattle.mps_model.specs.declared.Section.TheVariants.{Bounds, Columns, Finish, Ranges, RightSides, Rows, Title}
+use Rattle.mps_model.specs.Sections.{may_begin, section_of}
 
 -- a fault that a card may have: any but the limit of bytes
 abbrev pub IsOfCard : LineFault → Type 0
-IsOfCard (limit of_bytes) = ⊥
+IsOfCard (fault.Limit counted.Bytes) = ⊥
 IsOfCard other = Unit {0}
 
 -- a judgement whose fault, if it is one, is a card's
@@ -33,13 +43,13 @@ then (Err fault) step h k = h
 -- ── rows ──
 
 row_added : (s : DeckSoFar) (name : List ℕ) (kind : RowType) → JudgesCard (with_row_of s name kind)
-row_added s name free = tt
-row_added s name (kept kind) = either (nat_lt (length s.deck.rows) row_limit) _ _ tt tt
+row_added s name Free = tt
+row_added s name (Kept kind) = either (nat_lt (length s.deck.rows) row_limit) _ _ tt tt
 
 row_judged : (s : DeckSoFar) (fields : List (List ℕ)) → JudgesCard (judge_row s fields)
 row_judged s fields = by (row_type_of (field_of fields 1))
   where
-    by : (o : Option RowType) → JudgesCard (elim o [ None ↦ Err row_type | Some kind ↦ cond (is_some (place_of s (field_of fields 2))) (Err repeated) (with_row_of s (field_of fields 2) kind) ])
+    by : (o : Option RowType) → JudgesCard (elim o [ None ↦ Err fault.RowType | Some kind ↦ cond (is_some (place_of s (field_of fields 2))) (Err fault.Repeated) (with_row_of s (field_of fields 2) kind) ])
     by None = tt
     by (Some kind) = either (is_some (place_of s (field_of fields 2))) _ _ tt (row_added s (field_of fields 2) kind)
 
@@ -48,7 +58,7 @@ row_judged s fields = by (row_type_of (field_of fields 1))
 number_read : (text : List ℕ) → JudgesCard (number_in text)
 number_read text = by (field_value text)
   where
-    by : (value : Result ℚ FieldFault) → JudgesCard {T = ℚ} (elim value [ Err fault ↦ Err number | Ok v ↦ Ok v ])
+    by : (value : Result ℚ FieldFault) → JudgesCard {T = ℚ} (elim value [ Err why ↦ Err fault.Number | Ok v ↦ Ok v ])
     by (Ok v) = tt
     by (Err fault) = tt
 
@@ -56,7 +66,7 @@ module _ (use_number : UseOfNumber) (used : (s : DeckSoFar) (place : RowPlace) (
   pair_judged : (s : DeckSoFar) (name text : List ℕ) → JudgesCard (judge_pair use_number s name text)
   pair_judged s name text = by (place_of s name)
     where
-      by : (o : Option RowPlace) → JudgesCard (elim o [ None ↦ Err unknown_row | Some place ↦ cond (is_among name s.named) (Err repeated) (and_then (number_in text) (λ v. use_number (with_named s name) place v)) ])
+      by : (o : Option RowPlace) → JudgesCard (elim o [ None ↦ Err fault.UnknownRow | Some place ↦ cond (is_among name s.named) (Err fault.Repeated) (and_then (number_in text) (λ v. use_number (with_named s name) place v)) ])
       by None = tt
       by (Some place) = either (is_among name s.named) _ _ tt (then (number_in text) _ (number_read text) (λ v. used (with_named s name) place v))
 
@@ -82,7 +92,7 @@ range_used s dropped v = tt
 column_found : (s : DeckSoFar) (name : List ℕ) → JudgesCard (at_column s name)
 column_found s name = by (find_column s.deck name)
   where
-    by : (o : Option ℕ) → JudgesCard (elim o [ None ↦ begin_column s name | Some j ↦ cond (j + 1 == length s.deck.columns) (Ok s) (Err scattered) ])
+    by : (o : Option ℕ) → JudgesCard (elim o [ None ↦ begin_column s name | Some j ↦ cond (j + 1 == length s.deck.columns) (Ok s) (Err fault.Scattered) ])
     by None = either (nat_lt (length s.deck.columns) column_limit) _ _ tt tt
     by (Some j) = either (j + 1 == length s.deck.columns) _ _ tt tt
 
@@ -108,7 +118,7 @@ bound_number_read kind text = either (has_number kind) _ _ (then (number_in text
 bound_of_judged : (s : DeckSoFar) (kind : BoundKind) (fields : List (List ℕ)) → JudgesCard (judge_bound_of s kind fields)
 bound_of_judged s kind fields = by (find_column s.deck (field_of fields 3))
   where
-    by : (o : Option ℕ) → JudgesCard (elim o [ None ↦ Err unknown_column | Some j ↦ and_then (bound_number kind (field_of fields 4)) (λ v. Ok (with_bound s kind j v)) ])
+    by : (o : Option ℕ) → JudgesCard (elim o [ None ↦ Err fault.UnknownColumn | Some j ↦ and_then (bound_number kind (field_of fields 4)) (λ v. Ok (with_bound s kind j v)) ])
     by None = tt
     by (Some j) = then (bound_number kind (field_of fields 4)) _ (bound_number_read kind (field_of fields 4)) (λ v. tt)
 
@@ -122,27 +132,35 @@ in_set_judged : (judge : DeckSoFar → List (List ℕ) → Result DeckSoFar Line
 in_set_judged judge h s fields = either (same_bytes (unwrap_or s.set (field_of fields 2)) (field_of fields 2)) _ _ (h (with_set s (field_of fields 2)) fields) tt
 
 data_judged : (begun : List Section) (s : DeckSoFar) (fields : List (List ℕ)) → JudgesCard (judge_data begun s fields)
-data_judged (rows ∷ begun) s fields = row_judged s fields
-data_judged (columns ∷ begun) s fields = column_judged s fields
-data_judged (right_sides ∷ begun) s fields = in_set_judged _ (pairs_judged use_as_right right_used) s fields
-data_judged (ranges ∷ begun) s fields = in_set_judged _ (pairs_judged use_as_range range_used) s fields
-data_judged (bounds ∷ begun) s fields = in_set_judged _ bound_judged s fields
-data_judged (title ∷ begun) s fields = tt
-data_judged (finish ∷ begun) s fields = tt
+data_judged (Rows ∷ begun) s fields = row_judged s fields
+data_judged (Columns ∷ begun) s fields = column_judged s fields
+data_judged (RightSides ∷ begun) s fields = in_set_judged _ (pairs_judged use_as_right right_used) s fields
+data_judged (Ranges ∷ begun) s fields = in_set_judged _ (pairs_judged use_as_range range_used) s fields
+data_judged (Bounds ∷ begun) s fields = in_set_judged _ bound_judged s fields
+data_judged (Title ∷ begun) s fields = tt
+data_judged (Finish ∷ begun) s fields = tt
 data_judged [] s fields = tt
 
 section_judged : (s : DeckSoFar) (fields : List (List ℕ)) → JudgesCard (judge_section s fields)
 section_judged s fields = by (section_of (field_of fields 1))
   where
-    by : (o : Option Section) → JudgesCard (elim o [ None ↦ Err section | Some kind ↦ cond (may_begin kind s.begun) (Ok (begin_section s kind fields)) (Err section) ])
+    by : (o : Option Section) → JudgesCard (elim o [ None ↦ Err fault.Section | Some kind ↦ cond (may_begin kind s.begun) (Ok (begin_section s kind fields)) (Err fault.Section) ])
     by None = tt
     by (Some kind) = either (may_begin kind s.begun) _ _ tt tt
 
+-- what a line is by itself
+card_judged : (text : List ℕ) → JudgesCard (card_in text)
+card_judged text = either (is_ignored text) _ _ tt (either (not (list_all is_printable text)) _ _ tt (either (is_blank (byte_in text 1)) _ _ (by (filled_gap text)) tt))
+  where
+    by : (gap : Option ℕ) → JudgesCard (data_card text gap)
+    by None = tt
+    by (Some column) = tt
+
 -- what a line's columns are judged to be
 pub columns_judged : (s : DeckSoFar) (line : List ℕ) → JudgesCard (judge_columns s line)
-columns_judged s line = by (card_of line)
+columns_judged s line = by (card_of line) (card_judged (counted line))
   where
-    by : (o : Result (Option Card) CardFault) → JudgesCard (elim o [ Err fault ↦ Err (in_card fault) | Ok None ↦ Ok s | Ok (Some card) ↦ judge_card s card ])
-    by (Err fault) = tt
-    by (Ok None) = tt
-    by (Ok (Some card)) = either card.is_section _ _ (section_judged s card.fields) (data_judged s.begun s card.fields)
+    by : (o : Result (Option Card) LineFault) → JudgesCard o → JudgesCard (elim o [ Err why ↦ Err why | Ok None ↦ Ok s | Ok (Some card) ↦ judge_card s card ])
+    by (Err why) h = h
+    by (Ok None) h = tt
+    by (Ok (Some card)) h = either card.is_section _ _ (section_judged s card.fields) (data_judged s.begun s card.fields)

@@ -1,38 +1,44 @@
 -- Cards of data, by the section that they stand in.
-use Rattle.std.proofs.Common.{◌≡◌, ℕ, Bool, true, false, List, [], ◌∷◌, map, Option, Some, Result, Ok, if◌then◌else◌, sym, ap, ◌∙◌, subst}
+use Rattle.std.proofs.Common.{◌≡◌, ℕ, Bool, true, false, List, [], ◌∷◌, Option, Some, Result, Ok, if◌then◌else◌, refl, sym, ap, ◌∙◌, subst}
 use Rattle.std.specs.List.{slice_get}
 use Rattle.std.specs.Option.{unwrap_or}
 use Rattle.lp_model.specs.Edit.{same_bytes}
 use Rattle.lp_text.specs.Cards.{field_of}
-use Rattle.mps_model.specs.DeckSoFar.{DeckSoFar, LineFault}
+use Rattle.lp_text.specs.declared.LineFault.{LineFault}
+use Rattle.mps_model.specs.declared.Section.{Section}
+use Rattle.mps_model.specs.declared.Section.TheVariants.{Bounds, Columns, Finish, Ranges, RightSides, Rows, Title}
+use Rattle.mps_model.specs.DeckSoFar.{DeckSoFar}
 use Rattle.mps_model.specs.Judgement.{judge_data}
 use Rattle.mps_model.specs.PairCards.{judge_in_set, with_set}
 use Rattle.mps_reader.specs.declared.draft.Draft.{Draft}
 use Rattle.mps_reader.specs.declared.pairs.Use.{Use}
 use Rattle.mps_reader.specs.declared.pairs.Use.TheVariants.{InColumn, AsRight, AsRange}
 use Rattle.mps_reader.specs.declared.refusal.Refusal.{Refusal}
-use Rattle.mps_reader.specs.declared.section.Section.{Section as Begun}
-use Rattle.mps_reader.specs.Kinds.{section_is}
-use Rattle.mps_reader.specs.Standing.{Judged, MayUse, Stands}
+use Rattle.mps_reader.specs.Inner.Standing.{Judged, MayUse, Stands}
 
 -- what is judged as another card is taken as that
 pub judged_as : (j k : Result DeckSoFar LineFault) (new : Draft) (r : Result (Unit {0}) Refusal) → j ≡ k → Judged k new r → Judged j new r
 judged_as j k new r e t = subst (λ x. Judged x new r) (sym e) t
 
-module _ (draft : Draft) (s : DeckSoFar) (h : Stands draft s) (k : Begun) (before : List Begun) (at : draft.begun.items ≡ k ∷ before) where
-  pub begun_at : s.begun ≡ section_is k ∷ map section_is before
-  begun_at = h.begun ∙ ap (map section_is) at
+-- a card of data is judged by the last section that has begun
+judged_by_last : (k : Section) (before : List Section) (s : DeckSoFar) (fields : List (List ℕ)) → judge_data (k ∷ before) s fields ≡ judge_data (k ∷ []) s fields
+judged_by_last Title before s fields = refl
+judged_by_last Rows before s fields = refl
+judged_by_last Columns before s fields = refl
+judged_by_last RightSides before s fields = refl
+judged_by_last Ranges before s fields = refl
+judged_by_last Bounds before s fields = refl
+judged_by_last Finish before s fields = refl
 
-  -- a card in a section is judged by it
-  pub judged_at : (fields : List (List ℕ)) → judge_data s.begun s fields ≡ judge_data (section_is k ∷ map section_is before) s fields
-  judged_at fields = ap (λ b. judge_data b s fields) begun_at
-
--- what stands first in a list
-pub first_of : (items : List Begun) (k : Begun) → slice_get items 0 ≡ Some k → (rest : List Begun) × (items ≡ k ∷ rest)
-first_of [] k e = absurd (cc e)
-first_of (x ∷ rest) k e =
-    let same : x ≡ k = cc e in
-    (rest, ap (λ y. y ∷ rest) same)
+-- the section that stands first in a draft judges a card
+pub judged_in : (draft : Draft) (s : DeckSoFar) (k kind : Section) → Stands draft s → slice_get draft.begun.items 0 ≡ Some k → k ≡ kind → (fields : List (List ℕ)) → judge_data s.begun s fields ≡ judge_data (kind ∷ []) s fields
+judged_in draft s k kind h first is fields = ap (λ b. judge_data b s fields) h.begun ∙ by draft.begun.items (first ∙ ap Some is)
+  where
+    by : (items : List Section) → slice_get items 0 ≡ Some kind → judge_data items s fields ≡ judge_data (kind ∷ []) s fields
+    by [] e = absurd (cc e)
+    by (x ∷ rest) e =
+        let same : x ≡ kind = cc e in
+        ap (λ y. judge_data (y ∷ rest) s fields) same ∙ judged_by_last kind rest s fields
 
 -- ── cards of sections with sets ──
 

@@ -7,7 +7,7 @@ use Rattle.mps_model.specs.DeckSoFar.{DeckSoFar}
 use Rattle.mps_model.specs.DeckOf.{crossed_bounds, finished, has_fault, is_crossed, is_deck, no_objective}
 use Rattle.mps_reader.specs.declared.bounds.Ends.{Ends}
 use Rattle.mps_reader.specs.declared.draft.Draft.{Draft}
-use Rattle.mps_reader.specs.Standing.{Stands, bounds_of, deck_with, no_objective_name, with_ends}
+use Rattle.mps_reader.specs.Inner.Standing.{Stands, interval_of, deck_with, no_objective_name, with_ends}
 use Rattle.mps_reader.proofs.CrossedColumns.{AreUncrossed, find-first, find-none, given_ends, with_ends-none}
 use Rattle.mps_reader.proofs.WithEnds.{get_or-with_ends, length-with_ends}
 
@@ -42,10 +42,10 @@ module _ (draft : Draft) (s : DeckSoFar) (h : Stands draft s) (ends : List Ends)
 
     -- the first column whose ends cross is named
     pub first_crossed : (d : Deck) (given k : ℕ) (e : Ends) (name : List ℕ) → d ≡ given_ends draft.deck (take given ends) → k < length ends → AreUncrossed ends k
-        → e ≡ get_or ends k e → is_crossed (bounds_of e) ≡ true → name ≡ (column d k).name → finished s line ≡ has_fault (crossed_bounds name)
+        → e ≡ get_or ends k e → is_crossed (interval_of e) ≡ true → name ≡ (column d k).name → finished s line ≡ has_fault (crossed_bounds name)
     first_crossed d given k e name is less before at crossed called =
-        reading (Some (record (column draft.deck k) { bounds = bounds_of (get_or ends k e) }))
-        (sym (find-first draft.deck.columns ends k e all_columns less before (ap (λ x. is_crossed (bounds_of x)) (sym at) ∙ crossed)))
+        reading (Some (record (column draft.deck k) { bounds = interval_of (get_or ends k e) }))
+        (sym (find-first draft.deck.columns ends k e all_columns less before (ap (λ x. is_crossed (interval_of x)) (sym at) ∙ crossed)))
         ∙ ap (λ n. has_fault (crossed_bounds n))
         (sym (called ∙ ap (λ d. (column d k).name) is ∙ get_or-with_ends (λ c. c.name) (λ c b. refl) draft.deck.columns (take given ends) k))
 

@@ -1,4 +1,6 @@
 pub mod DataCards
+pub mod Names
+pub mod Positions
 pub mod RowNames
 pub mod RowsAdded
 pub mod SectionOrder
@@ -21,6 +23,5 @@ pub mod BoundEnds
 pub mod BoundSet
 pub mod BoundTaken
 pub mod BoundWords
-pub mod Comparisons
 pub mod CrossedColumns
 pub mod DeckEnds

@@ -3,18 +3,18 @@ use Rattle.std.proofs.Common.{◌≡◌, ℕ, suc, ◌≤◌, Bool, true, false,
 use Rattle.std.specs.List.{list_all}
 use Rattle.std.proofs.lemmas.Bool.{ltb-true}
 use Rattle.std.proofs.lemmas.List.{length-reverse, length-take, length-take-le}
-use Rattle.lp_text.specs.Cards.{Card as TextCard, CardFault as TextFault, byte_in, bytes_in, card_of, columns, counted, data_card, data_fields, field_of, filled_gap, is_blank, is_ignored, is_printable, not_ascii, section_fields, trimmed, without_leading}
+use Rattle.lp_text.specs.Cards.{Card as TextCard, byte_in, bytes_in, card_of, counted, data_card, data_fields, field_of, filled_gap, is_blank, is_ignored, is_printable, section_fields, trimmed, without_leading}
 use Rattle.lp_text.specs.Lines.{Line as TextLine}
 use Rattle.mps_cards.specs.declared.lines.Line.{Line}
-use Rattle.mps_model.specs.DeckSoFar.{DeckSoFar, LineFault, in_card}
-use Rattle.mps_model.specs.DeckOf.{in_line}
+use Rattle.lp_text.specs.declared.LineFault.{LineFault}
+use Rattle.lp_text.specs.declared.LineFault.TheVariants.{NotAscii}
+use Rattle.mps_model.specs.DeckSoFar.{DeckSoFar}
 use Rattle.mps_model.specs.Judgement.{judge_card, judge_columns}
-use Rattle.mps_reader.specs.declared.faults.DeckFault.TheVariants as fault
 use Rattle.mps_reader.specs.declared.refusal.Refusal.{Refusal}
-use Rattle.mps_reader.specs.declared.refusal.Refusal.TheVariants as refusal
-use Rattle.mps_reader.specs.Reached.{HasColumnsOf, IsFoundAt}
-use Rattle.mps_reader.specs.Refusals.{at_line, line_fault}
-use Rattle.mps_reader.specs.Standing.{IsFound}
+use Rattle.mps_reader.specs.declared.refusal.Refusal.TheVariants.{Fault, Memory}
+use Rattle.mps_reader.specs.Inner.Reached.{HasColumnsOf, IsFoundAt}
+use Rattle.mps_reader.specs.Inner.Refusals.{at_line, line_fault}
+use Rattle.mps_reader.specs.Inner.Standing.{IsFound}
 
 -- ── the second field ──
 
@@ -34,11 +34,11 @@ length-trimmed text =
 short_range : (text : List ℕ) → length (trimmed (bytes_in text 5 12)) ≤ 8
 short_range text = omega (arith, length-trimmed (bytes_in text 5 12), length-take 8 (drop 4 text))
 
-card_is : (a b : TextCard) (answer : Result (Option TextCard) TextFault) → answer ≡ Ok (Some a) → answer ≡ Ok (Some b) → a ≡ b
+card_is : (a b : TextCard) (answer : Result (Option TextCard) LineFault) → answer ≡ Ok (Some a) → answer ≡ Ok (Some b) → a ≡ b
 card_is a b answer is other = cc
 
 short_card : (text : List ℕ) (card : TextCard) (ignored prints blank : Bool) (gap : Option ℕ)
-    → cond ignored (Ok None) (cond (not prints) (Err not_ascii) (cond blank (data_card text gap) (Ok (Some (record { is_section = true; fields = section_fields text }))))) ≡ Ok (Some card)
+    → cond ignored (Ok None) (cond (not prints) (Err NotAscii) (cond blank (data_card text gap) (Ok (Some (record { is_section = true; fields = section_fields text }))))) ≡ Ok (Some card)
     → length (field_of card.fields 2) ≤ 8
 short_card text card true prints blank gap e = absurd (cc)
 short_card text card false false blank gap e = absurd (cc)
@@ -64,8 +64,8 @@ long_enough line whole is longer =
     omega (arith, size)
 
 -- what a card, or its fault, makes of the deck so far
-abbrev judged_as : DeckSoFar → Result (Option TextCard) TextFault → Result DeckSoFar LineFault
-judged_as s (Err fault) = Err (in_card fault)
+abbrev judged_as : DeckSoFar → Result (Option TextCard) LineFault → Result DeckSoFar LineFault
+judged_as s (Err fault) = Err fault
 judged_as s (Ok None) = Ok s
 judged_as s (Ok (Some card)) = judge_card s card
 
@@ -75,27 +75,9 @@ ignored_line s bytes e = ap (judged_as s) e
 pub card_line : (s : DeckSoFar) (bytes : List ℕ) (card : TextCard) → card_of bytes ≡ Ok (Some card) → judge_columns s bytes ≡ judge_card s card
 card_line s bytes card e = ap (judged_as s) e
 
-pub no_card_line : (s : DeckSoFar) (bytes : List ℕ) (f : TextFault) → card_of bytes ≡ Err f → judge_columns s bytes ≡ Err (in_card f)
-no_card_line s bytes f e = ap (judged_as s) e
-
 -- ── faults ──
 
 -- the refusal of a card is the fault of its line
 pub refused_at : (n : ℕ) (judged : Result DeckSoFar LineFault) (r : Refusal) → IsFound judged (line_fault r) → IsFoundAt n judged (at_line n r)
-refused_at n judged refusal.Memory h = tt
-refused_at n judged refusal.Section h = (_, refl, h)
-refused_at n judged refusal.RowType h = (_, refl, h)
-refused_at n judged refusal.UnknownRow h = (_, refl, h)
-refused_at n judged refusal.UnknownColumn h = (_, refl, h)
-refused_at n judged refusal.Repeated h = (_, refl, h)
-refused_at n judged refusal.Scattered h = (_, refl, h)
-refused_at n judged refusal.Number h = (_, refl, h)
-refused_at n judged refusal.Bound h = (_, refl, h)
-refused_at n judged refusal.Integer h = (_, refl, h)
-refused_at n judged (refusal.Limit which) h = (_, refl, h)
-
-pub not_ascii_at : (n line : ℕ) (judged : Result DeckSoFar LineFault) → judged ≡ Err (in_card not_ascii) → line ≡ n → IsFoundAt n judged (fault.NotAscii line)
-not_ascii_at n line judged is same = (in_card not_ascii, ap (λ k. in_line k (in_card not_ascii)) same, is)
-
-pub columns_at : (n line column : ℕ) (judged : Result DeckSoFar LineFault) → judged ≡ Err (in_card (columns column)) → line ≡ n → IsFoundAt n judged (fault.Columns line column)
-columns_at n line column judged is same = (in_card (columns column), ap (λ k. in_line k (in_card (columns column))) same, is)
+refused_at n judged Memory h = tt
+refused_at n judged (Fault fault) h = (fault, refl, h)

@@ -6,9 +6,9 @@ use Rattle.std.proofs.lemmas.List.Quantifiers.{position-Some}
 use Rattle.deck_model.proofs.Lookups.{same_bytes-pointwise}
 use Rattle.lp_model.specs.Deck.{Deck, no_row}
 use Rattle.lp_model.specs.Edit.{find_row, same_bytes}
-use Rattle.mps_model.proofs.SameCards.{same_bytes-equal, same_bytes-own}
+use Rattle.mps_reader.proofs.Names.{same_bytes-equal, same_bytes-own}
 use Rattle.mps_model.specs.DeckSoFar.{is_among}
-use Rattle.mps_reader.specs.Standing.{is_marked, slot_of}
+use Rattle.mps_reader.specs.Inner.Standing.{is_marked, slot_of, slot_with}
 
 pub ruleset same = (same_bytes-pointwise)
 
@@ -24,7 +24,7 @@ slot_cases d keys name k is = by_row (find_row d name) refl is
     by_place None found e = absurd (cc e)
     by_place (Some j) found e = (j, found, cc e)
 
-    by_row : (o : Option ℕ) → find_row d name ≡ o → elim o [ Some i ↦ Some i | None ↦ option_map (λ j. length d.rows + j) (position (λ n. same_bytes n name) keys) ] ≡ Some k
+    by_row : (o : Option ℕ) → find_row d name ≡ o → slot_with (length d.rows) o (position (λ n. same_bytes n name) keys) ≡ Some k
         → (find_row d name ≡ Some k) ⊎ ((j : ℕ) × (position (λ n. same_bytes n name) keys ≡ Some j) × (length d.rows + j ≡ k))
     by_row (Some i) found e = inl (found ∙ e)
     by_row None found e = inr (by_place (position (λ n. same_bytes n name) keys) refl e)

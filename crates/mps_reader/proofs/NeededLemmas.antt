@@ -3,14 +3,14 @@ use Rattle.std.proofs.Common.{◌≡◌, ◌≢◌, ℕ, ◌⊎◌, inl, inr, Li
 use Rattle.std.specs.Io.KnownBytes.{prepend_known}
 use Rattle.std.proofs.lemmas.List.{length-append}
 use Rattle.io_ends.specs.Bytes.{Gives}
-use Rattle.lp_text.specs.PlainDeck.{byte_limit}
+use Rattle.lp_text.specs.Limits.{byte_limit}
 use Rattle.mps_cards.specs.ReaderState.{ReaderState}
-use Rattle.mps_cards.specs.Reading.{IsNeeded, TakesAsNeeded}
+use Rattle.mps_cards.specs.NextLine.{IsNeeded, TakesAsNeeded}
 use Rattle.mps_model.specs.DeckSoFar.{DeckSoFar}
 use Rattle.mps_model.specs.DeckOf.{IsOpen}
 use Rattle.mps_reader.specs.declared.draft.Draft.{Draft}
 use Rattle.mps_reader.specs.Answers.{IsReadAsNeeded, IsReadNeeded, ReadsAsNeeded}
-use Rattle.mps_reader.specs.Reached.{Reached, ReachedIn}
+use Rattle.mps_reader.specs.Inner.Reached.{Reached, ReachedIn}
 use Rattle.mps_reader.proofs.ReachedLemmas.{given_split, open_through}
 
 -- a source that was not read

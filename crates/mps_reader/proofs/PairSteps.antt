@@ -1,27 +1,33 @@
 -- A draft after a pair of a row's name and a number.
-use Rattle.std.proofs.Common.{◌≡◌, ℕ, ◌+◌, ◌-◌, ◌<◌, List, [], ◌∷◌, length, get_or, set, position, option_map, cond, Option, Some, None, Result, Ok, Err, Bool, true, false, ◌||◌, ◌==◌, nat_lt, refl, sym, ap, ap₂, ◌∙◌, subst, arith, map, inl, inr, ◌⊎◌}
+use Rattle.std.proofs.Common.{◌≡◌, ℕ, ◌+◌, ◌-◌, ◌<◌, List, [], ◌∷◌, length, get_or, set, position, cond, Option, Some, None, Result, Ok, Err, Bool, true, false, ◌||◌, ◌==◌, nat_lt, refl, sym, ap, ap₂, ◌∙◌, subst, arith, inl, inr, ◌⊎◌}
 use Rattle.std.specs.Result.{IsErrAnd}
 use Rattle.std.proofs.lemmas.Bool.{cases_Bool, eqb-true, or_cases, true≢false}
 use Rattle.std.proofs.lemmas.List.{get_or-set_same, length-set}
 use Rattle.rational.specs.Rational.{ℚ, eq_ℚ, zero_ℚ}
 use Rattle.lp_model.specs.Deck.{Column, Deck, Row, column, no_column, no_row, row as row_at}
 use Rattle.lp_model.specs.Edit.{change_column, change_row, find_row, has_entry, insert_entry, same_bytes, with_cost, with_entry}
-use Rattle.mps_model.specs.DeckSoFar.{DeckSoFar, LineFault, RowPlace, and_then, is_among, limit, number, of_entries, place_of, repeated, unknown_row}
-use Rattle.mps_model.specs.NumberField.{FieldFault, field_value}
+use Rattle.lp_text.specs.declared.LineFault.{LineFault}
+use Rattle.lp_text.specs.declared.LineFault.TheVariants as fault
+use Rattle.lp_text.specs.declared.Counted.TheVariants as counted
+use Rattle.mps_model.specs.DeckSoFar.{DeckSoFar, RowPlace, and_then, is_among, place_of}
+use Rattle.mps_model.specs.declared.FieldFault.{FieldFault}
+use Rattle.mps_model.specs.NumberField.{field_value}
+use Rattle.lp_text.specs.Limits.{entry_limit}
 use Rattle.mps_model.specs.PairCards.{judge_pair, number_in, with_named}
-use Rattle.mps_model.specs.Sections.{columns, has_begun}
-use Rattle.mps_model.proofs.SameColumns.{position-set}
+use Rattle.mps_model.specs.declared.Section.TheVariants.{Columns}
+use Rattle.mps_model.specs.Sections.{has_begun}
+use Rattle.mps_reader.proofs.Positions.{position-set}
 use Rattle.mps_reader.specs.declared.bounds.Ends.{Ends}
 use Rattle.mps_reader.specs.declared.draft.Draft.{Draft}
 use Rattle.mps_reader.specs.declared.draft.Place.{Place}
 use Rattle.mps_reader.specs.declared.draft.Place.TheVariants.{Dropped, Objective, Row as At}
 use Rattle.mps_reader.specs.declared.pairs.Use.{Use}
 use Rattle.mps_reader.specs.declared.pairs.Use.TheVariants.{InColumn, AsRight, AsRange}
-use Rattle.mps_reader.specs.Kinds.{section_is, use_is}
+use Rattle.mps_reader.specs.Inner.Uses.{use_is}
 use Rattle.mps_reader.specs.declared.refusal.Refusal.{Refusal}
-use Rattle.mps_reader.specs.Refusals.{line_fault}
-use Rattle.mps_reader.specs.Placed.{IsFull, IsVacant, IsVacantFor, deck_after, has_room_for, with_number}
-use Rattle.mps_reader.specs.Standing.{InColumns, IsFound, Judged, MayUse, Stands, deck_with, is_marked, place_is, slot_is, slot_of}
+use Rattle.mps_reader.specs.Inner.Refusals.{line_fault}
+use Rattle.mps_reader.specs.Inner.Placed.{IsFull, IsVacant, IsVacantFor, deck_after, has_room_for, with_number}
+use Rattle.mps_reader.specs.Inner.Standing.{InColumns, IsFound, Judged, MayUse, Stands, deck_with, is_marked, place_is, slot_is, slot_of, slot_with}
 use Rattle.mps_reader.proofs.Columns.{begun-in}
 use Rattle.mps_reader.proofs.Marks.{marked-own, marked-still, named-more, slot_own, slot_within}
 use Rattle.mps_reader.proofs.WithEnds.{deck_with-columns, deck_with-entry_count, deck_with-with_cost, deck_with-with_entry}
@@ -44,8 +50,8 @@ module _ (d : Deck) (free_rows : List (List ℕ)) (ends : List Ends) where
   deck_after-ends AsRange (Dropped k) v = refl
 
   pub has_room-ends : (how : Use) (place : Place) (v : ℚ) → has_room_for how (deck_with d free_rows ends) place v ≡ has_room_for how d place v
-  has_room-ends InColumn Objective v = ap (λ n. eq_ℚ v zero_ℚ || nat_lt n 40000) (deck_with-entry_count d free_rows ends)
-  has_room-ends InColumn (At i) v = ap (λ n. eq_ℚ v zero_ℚ || nat_lt n 40000) (deck_with-entry_count d free_rows ends)
+  has_room-ends InColumn Objective v = ap (λ n. eq_ℚ v zero_ℚ || nat_lt n entry_limit) (deck_with-entry_count d free_rows ends)
+  has_room-ends InColumn (At i) v = ap (λ n. eq_ℚ v zero_ℚ || nat_lt n entry_limit) (deck_with-entry_count d free_rows ends)
   has_room-ends InColumn (Dropped k) v = refl
   has_room-ends AsRight place v = refl
   has_room-ends AsRange place v = refl
@@ -54,8 +60,8 @@ module _ (d : Deck) (free_rows : List (List ℕ)) (ends : List Ends) where
 
 module _ (s : DeckSoFar) (v : ℚ) where
   use-room : (how : Use) (place : Place) → has_room_for how s.deck place v ≡ true → use_is how s (place_is place) v ≡ Ok (record s { deck = deck_after how s.deck place v })
-  use-room InColumn Objective room = ap (λ b. cond b (Ok (record s { deck = with_number s.deck Objective v })) (Err (limit of_entries))) room
-  use-room InColumn (At i) room = ap (λ b. cond b (Ok (record s { deck = with_number s.deck (At i) v })) (Err (limit of_entries))) room
+  use-room InColumn Objective room = ap (λ b. cond b (Ok (record s { deck = with_number s.deck Objective v })) (Err (fault.Limit counted.Entries))) room
+  use-room InColumn (At i) room = ap (λ b. cond b (Ok (record s { deck = with_number s.deck (At i) v })) (Err (fault.Limit counted.Entries))) room
   use-room InColumn (Dropped k) room = refl
   use-room AsRight Objective room = refl
   use-room AsRight (At i) room = refl
@@ -64,9 +70,9 @@ module _ (s : DeckSoFar) (v : ℚ) where
   use-room AsRange (At i) room = refl
   use-room AsRange (Dropped k) room = refl
 
-  use-full : (how : Use) (place : Place) → has_room_for how s.deck place v ≡ false → use_is how s (place_is place) v ≡ Err (limit of_entries)
-  use-full InColumn Objective full = ap (λ b. cond b (Ok (record s { deck = with_number s.deck Objective v })) (Err (limit of_entries))) full
-  use-full InColumn (At i) full = ap (λ b. cond b (Ok (record s { deck = with_number s.deck (At i) v })) (Err (limit of_entries))) full
+  use-full : (how : Use) (place : Place) → has_room_for how s.deck place v ≡ false → use_is how s (place_is place) v ≡ Err (fault.Limit counted.Entries)
+  use-full InColumn Objective full = ap (λ b. cond b (Ok (record s { deck = with_number s.deck Objective v })) (Err (fault.Limit counted.Entries))) full
+  use-full InColumn (At i) full = ap (λ b. cond b (Ok (record s { deck = with_number s.deck (At i) v })) (Err (fault.Limit counted.Entries))) full
   use-full InColumn (Dropped k) full = absurd (cc full)
   use-full AsRight place full = absurd (cc full)
   use-full AsRange place full = absurd (cc full)
@@ -156,10 +162,10 @@ has_last AsRange draft may = tt
 
 module _ (how : Use) (s : DeckSoFar) (name text : List ℕ) where
   judged : Option RowPlace → Bool → Result ℚ LineFault → Result DeckSoFar LineFault
-  judged place again value = elim place [ None ↦ Err unknown_row | Some p ↦ cond again (Err repeated) (and_then value (λ v. use_is how (with_named s name) p v)) ]
+  judged place again value = elim place [ None ↦ Err fault.UnknownRow | Some p ↦ cond again (Err fault.Repeated) (and_then value (λ v. use_is how (with_named s name) p v)) ]
 
   number_of : Result ℚ FieldFault → Result ℚ LineFault
-  number_of value = elim value [ Err fault ↦ Err number | Ok v ↦ Ok v ]
+  number_of value = elim value [ Err why ↦ Err fault.Number | Ok v ↦ Ok v ]
 
   module _ (p : RowPlace) (found : place_of s name ≡ Some p) where
     module _ (fresh : is_among name s.named ≡ false) where
@@ -171,13 +177,13 @@ module _ (how : Use) (s : DeckSoFar) (name text : List ℕ) where
 
 module _ (how : Use) (draft : Draft) (s : DeckSoFar) (h : Stands draft s) (may : MayUse how draft) where
   -- the columns have begun
-  pub begun-may : has_begun columns s.begun ≡ true
+  pub begun-may : has_begun Columns s.begun ≡ true
   begun-may = by how may
     where
-      by : (how : Use) → MayUse how draft → has_begun columns s.begun ≡ true
+      by : (how : Use) → MayUse how draft → has_begun Columns s.begun ≡ true
       by InColumn may = begun-in draft s h may.0
-      by AsRight may = ap (has_begun columns) h.begun ∙ may
-      by AsRange may = ap (has_begun columns) h.begun ∙ may
+      by AsRight may = ap (has_begun Columns) h.begun ∙ may
+      by AsRange may = ap (has_begun Columns) h.begun ∙ may
 
   module _ (name : List ℕ) (place : Place) (found : place_of s name ≡ Some (place_is place)) (slot : slot_of draft.deck draft.free_rows.keys name ≡ Some (slot_is (length draft.deck.rows) place)) where
     pub slot-marked : slot_is (length draft.deck.rows) place < length draft.named
@@ -191,10 +197,7 @@ module _ (how : Use) (draft : Draft) (s : DeckSoFar) (h : Stands draft s) (may :
       kept = use_kept how draft.deck place v (has_last how draft may)
 
       slots_kept : (n : List ℕ) → slot_of (deck_after how draft.deck place v) draft.free_rows.keys n ≡ slot_of draft.deck draft.free_rows.keys n
-      slots_kept n = ap₂ (λ o r. slot_with o r n) (kept.places n) kept.rows
-        where
-          slot_with : Option ℕ → ℕ → List ℕ → Option ℕ
-          slot_with o r n = elim o [ Some i ↦ Some i | None ↦ option_map (λ k. r + k) (position (λ m. same_bytes m n) draft.free_rows.keys) ]
+      slots_kept n = ap₂ (λ o r. slot_with r o (position (λ m. same_bytes m n) draft.free_rows.keys)) (kept.places n) kept.rows
 
       pub pair_stands : Stands (record draft { deck = deck_after how draft.deck place v; named = set draft.named (slot_is (length draft.deck.rows) place) (Some true) }) (record s { deck = deck_after how s.deck place v; named = name ∷ s.named })
       pair_stands = record {
@@ -225,7 +228,7 @@ module _ (how : Use) (draft : Draft) (s : DeckSoFar) (h : Stands draft s) (may :
       pub pair_judged : has_room_for how draft.deck place v ≡ true → judge_pair (use_is how) s name text ≡ Ok (record s { deck = deck_after how s.deck place v; named = name ∷ s.named })
       pair_judged room = pair-value how s name text (place_is place) found (named-as ∙ fresh) v value ∙ use-room (with_named s name) v how place (room_as ∙ room)
 
-      pub pair_full : has_room_for how draft.deck place v ≡ false → judge_pair (use_is how) s name text ≡ Err (limit of_entries)
+      pub pair_full : has_room_for how draft.deck place v ≡ false → judge_pair (use_is how) s name text ≡ Err (fault.Limit counted.Entries)
       pair_full full = pair-value how s name text (place_is place) found (named-as ∙ fresh) v value ∙ use-full (with_named s name) v how place (room_as ∙ full)
 
       pub pair_taken : (new : Draft) (k : ℕ) (marks : List (Option Bool)) → new ≡ record draft { deck = deck_after how draft.deck place v } → k ≡ slot_is (length draft.deck.rows) place → marks ≡ set new.named k (Some true)
@@ -243,7 +246,7 @@ module _ (how : Use) (draft : Draft) (s : DeckSoFar) (h : Stands draft s) (may :
       by_place : InColumns draft → (place : Place) → is_marked draft.named (Some (slot_is (length draft.deck.rows) place)) ≡ false → IsVacant draft.deck place
       by_place at Objective fresh = tt
       by_place at (At i) fresh = elim (cases_Bool (has_entry (column draft.deck (length draft.deck.columns - 1)).entries i)) [
-        | inl has ↦ absurd (true≢false (sym (h.entered (map section_is at.0) (h.begun ∙ ap (map section_is) at.1) i has) ∙ fresh))
+        | inl has ↦ absurd (true≢false (sym (h.entered at.0 (h.begun ∙ at.1) i has) ∙ fresh))
         | inr none ↦ none
       ]
       by_place at (Dropped k) fresh = tt
@@ -261,6 +264,6 @@ refused judged new (Ok u) refusal same found = elim same [ ]
 refused judged new (Err e) refusal same found = subst (λ (x : Refusal). IsFound judged (line_fault x)) (sym same) found
 
 -- want of room, where the judgement says so
-pub full_found : (judged : Result DeckSoFar LineFault) (room : Bool) (fault : Option LineFault) → IsFull room fault → (room ≡ false → judged ≡ Err (limit of_entries)) → IsFound judged fault
+pub full_found : (judged : Result DeckSoFar LineFault) (room : Bool) (found : Option LineFault) → IsFull room found → (room ≡ false → judged ≡ Err (fault.Limit counted.Entries)) → IsFound judged found
 full_found judged room None full so = tt
-full_found judged room (Some fault) full so = so full.0 ∙ ap (λ x. Err x) (sym full.1)
+full_found judged room (Some found) full so = so full.0 ∙ ap (λ x. Err x) (sym full.1)

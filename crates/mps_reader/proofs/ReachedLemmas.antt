@@ -9,23 +9,25 @@ use Rattle.io_ends.specs.Bytes.{Gives}
 use Rattle.io_ends.specs.Count.{one_more}
 use Rattle.lp_model.specs.Deck.{Deck}
 use Rattle.lp_text.specs.Lines.{Line, lines_of, size_of, whole_lines}
-use Rattle.lp_text.specs.PlainDeck.{byte_limit}
+use Rattle.lp_text.specs.Limits.{byte_limit}
 use Rattle.lp_text.proofs.LinesLemmas.{size_of-first, whole_lines-longer}
 use Rattle.mps_cards.specs.ReaderState.{ReaderState}
 use Rattle.mps_cards.specs.declared.lines.Line as mps
-use Rattle.mps_cards.specs.Reading.{AnswersLine, FailsToRead, IsAtEnd, TakesLine as TakesText, answered, first_size, lines_left}
-use Rattle.mps_model.specs.DeckSoFar.{DeckSoFar, LineFault, limit, no_cards, of_bytes}
+use Rattle.mps_cards.specs.NextLine.{AnswersLine, FailsToRead, IsAtEnd, TakesLine as TakesText, answered, first_size, lines_left}
+use Rattle.lp_text.specs.declared.LineFault.{LineFault}
+use Rattle.lp_text.specs.declared.LineFault.TheVariants.{Limit}
+use Rattle.lp_text.specs.declared.Counted.TheVariants.{Bytes}
+use Rattle.mps_model.specs.DeckSoFar.{DeckSoFar, no_cards}
 use Rattle.mps_model.specs.DeckOf.{HasFault, IsDeckOf, IsOpen, finished, has_fault, in_line, is_deck, no_end, read_lines, reading_of}
 use Rattle.mps_model.specs.Judgement.{has_finished, judge_columns, judge_line}
 use Rattle.mps_model.proofs.ReadingLemmas.{after_line}
 use Rattle.mps_reader.specs.declared.draft.Draft.{Draft}
 use Rattle.mps_reader.specs.declared.faults.DeckFault.{DeckFault}
 use Rattle.mps_reader.specs.declared.faults.DeckFault.TheVariants as fault
-use Rattle.mps_reader.specs.declared.faults.Which.TheVariants as which
 use Rattle.mps_reader.specs.Answers.{HasAnswered, IsFaultOf, IsFresh, IsReadFault, IsReadNeeded, StandsAfter}
-use Rattle.mps_reader.specs.Reached.{HasColumnsOf, IsFoundAt, IsLineCause, IsTaken, IsThrough, Reached, ReachedIn}
-use Rattle.mps_reader.specs.Refusals.{text_fault}
-use Rattle.mps_reader.specs.Standing.{Stands}
+use Rattle.mps_reader.specs.Inner.Reached.{HasColumnsOf, IsFoundAt, IsLineCause, IsTaken, IsThrough, Reached, ReachedIn}
+use Rattle.mps_reader.specs.Faults.{text_fault}
+use Rattle.mps_reader.specs.Inner.Standing.{Stands}
 use Rattle.mps_reader.proofs.AfterFaults.{after_card, after_end}
 use Rattle.mps_reader.proofs.CardFaults.{columns_judged}
 use Rattle.mps_reader.proofs.LineSizes.{length-first}
@@ -34,11 +36,11 @@ use Rattle.mps_reader.proofs.LineSizes.{length-first}
 
 judged_within : (used : ℕ) (s : DeckSoFar) (line : Line) → used + size_of line ≤ byte_limit → judge_line used s line ≡ judge_columns s line.bytes
 judged_within used s line within =
-    ap (λ b. cond b (judge_columns s line.bytes) (Err (limit of_bytes))) (le-leb (used + size_of line) byte_limit within)
+    ap (λ b. cond b (judge_columns s line.bytes) (Err (Limit Bytes))) (le-leb (used + size_of line) byte_limit within)
 
-too_long : (used : ℕ) (s : DeckSoFar) (line : Line) → byte_limit < used + size_of line → judge_line used s line ≡ Err (limit of_bytes)
+too_long : (used : ℕ) (s : DeckSoFar) (line : Line) → byte_limit < used + size_of line → judge_line used s line ≡ Err (Limit Bytes)
 too_long used s line over =
-    ap (λ b. cond b (judge_columns s line.bytes) (Err (limit of_bytes))) (lt-leb (used + size_of line) byte_limit over)
+    ap (λ b. cond b (judge_columns s line.bytes) (Err (Limit Bytes))) (lt-leb (used + size_of line) byte_limit over)
 
 goes_on : (n used : ℕ) (s after : DeckSoFar) (line : Line) (lines : List Line) → judge_line used s line ≡ Ok after → has_finished after.begun ≡ false
     → read_lines n used s (line ∷ lines) ≡ read_lines (suc n) (used + size_of line) after lines
@@ -201,7 +203,7 @@ one_more_is : (n : ℕ) → n ≤ byte_limit → one_more n ≡ suc n
 one_more_is n h = omega arith
 
 line_of : (reader reader' : ReaderState) (left left' : Option (List ℕ)) (answer : mps.Line) → reader.count ≤ reader.since → reader.since ≤ byte_limit
-    → AnswersLine reader reader' left left' 61 4194304 answer → IsLineOf reader reader' left left' answer
+    → AnswersLine reader reader' left left' 61 byte_limit answer → IsLineOf reader reader' left left' answer
 line_of reader reader' left left' answer counted low a =
     let within : reader.since + size_of a.line ≤ byte_limit = subst (λ n. n ≤ byte_limit) a.since a.within in
     let more = one_more_is reader.count (omega (arith, counted, low)) in
@@ -219,7 +221,7 @@ line_of reader reader' left left' answer counted low a =
     }
 
 -- a line that was answered has the columns that count of some line
-pub has_columns : (reader reader' : ReaderState) (left left' : Option (List ℕ)) (answer : mps.Line) → AnswersLine reader reader' left left' 61 4194304 answer
+pub has_columns : (reader reader' : ReaderState) (left left' : Option (List ℕ)) (answer : mps.Line) → AnswersLine reader reader' left left' 61 byte_limit answer
     → (whole : Line) × HasColumnsOf answer whole
 has_columns reader reader' left left' answer a = (a.line, a.answer_is ∙ ap (λ n. answered n 61 a.line) (sym (ap (λ l. l.number) a.answer_is)))
 
@@ -254,9 +256,9 @@ module _ (start : List ℕ) (text left : Option (List ℕ)) (reader : ReaderStat
   few = omega (arith, h.counted, h.within)
 
   too_many : (lines : List Line) → byte_limit < reader.since + first_size lines
-      → read_lines reader.count reader.since h.so_far lines ≡ has_fault (in_line (suc reader.count) (limit of_bytes))
+      → read_lines reader.count reader.since h.so_far lines ≡ has_fault (in_line (suc reader.count) (Limit Bytes))
   too_many [] over = absurd (omega (arith, over, h.within))
-  too_many (line ∷ lines) over = stops reader.count reader.since h.so_far line lines (limit of_bytes) (too_long reader.since h.so_far line over)
+  too_many (line ∷ lines) over = stops reader.count reader.since h.so_far line lines (Limit Bytes) (too_long reader.since h.so_far line over)
 
   pub refused_line : (left' : Option (List ℕ)) (faults faults' : ℕ) (f : DeckFault) → IsLineCause reader left left' faults faults' f → IsFaultOf (prepend_known start text) f
   refused_line left' faults faults' fault.Memory cause = tt
@@ -265,27 +267,13 @@ module _ (start : List ℕ) (text left : Option (List ℕ)) (reader : ReaderStat
       let e = at_end reader.kept r.rest left r.known cause.1 in
       r.ahead ∙ ap (λ x. read_lines reader.count reader.since h.so_far (lines_of x)) (ap₂ (λ k g. k ++ g) e.0 e.1)
       ∙ ap (λ k. has_fault (no_end k)) (sym cause.0)) h.run
-  refused_line left' faults faults' (fault.Limit which.Bytes n) cause = if_known start text Here (λ t. HasFault t (in_line n (limit of_bytes))) (λ t r.
+  refused_line left' faults faults' (fault.InLine n found) cause = if_known start text Here (λ t. HasFault t (in_line n found)) (λ t r.
       let over : byte_limit < reader.since + first_size (lines_of (reader.kept ++ r.rest)) =
       subst (λ l. IfSome (lines_left reader.kept l) (λ lines. byte_limit < reader.since + first_size lines)) r.known cause.2 in
       r.ahead ∙ too_many (lines_of (reader.kept ++ r.rest)) over
-      ∙ ap (λ k. has_fault (in_line k (limit of_bytes))) (sym (cause.1 ∙ one_more_is reader.count few))) h.run
-  refused_line left' faults faults' (fault.Limit which.Rows n) cause = absurd (let e = cause.0 in cc)
-  refused_line left' faults faults' (fault.Limit which.Columns n) cause = absurd (let e = cause.0 in cc)
-  refused_line left' faults faults' (fault.Limit which.Entries n) cause = absurd (let e = cause.0 in cc)
-  refused_line left' faults faults' (fault.Columns n c) cause = absurd (cause)
-  refused_line left' faults faults' (fault.NotAscii n) cause = absurd (cause)
-  refused_line left' faults faults' (fault.Section n) cause = absurd (cause)
-  refused_line left' faults faults' (fault.RowType n) cause = absurd (cause)
-  refused_line left' faults faults' (fault.UnknownRow n) cause = absurd (cause)
-  refused_line left' faults faults' (fault.UnknownColumn n) cause = absurd (cause)
-  refused_line left' faults faults' (fault.Repeated n) cause = absurd (cause)
-  refused_line left' faults faults' (fault.Scattered n) cause = absurd (cause)
-  refused_line left' faults faults' (fault.Number n) cause = absurd (cause)
-  refused_line left' faults faults' (fault.Bound n) cause = absurd (cause)
-  refused_line left' faults faults' (fault.Integer n) cause = absurd (cause)
-  refused_line left' faults faults' fault.NoObjective cause = absurd (cause)
-  refused_line left' faults faults' (fault.CrossedBounds name) cause = absurd (cause)
+      ∙ ap₂ (λ k f. has_fault (in_line k f)) (sym (cause.1 ∙ one_more_is reader.count few)) (sym cause.0)) h.run
+  refused_line left' faults faults' fault.NoObjective cause = absurd cause
+  refused_line left' faults faults' (fault.CrossedBounds name) cause = absurd cause
 
   pub read_failed : (left' : Option (List ℕ)) (faults faults' : ℕ) → IsLineCause reader left left' faults faults' fault.Read → IsReadFault start text left'
   read_failed left' faults faults' cause =
@@ -296,7 +284,7 @@ module _ (start : List ℕ) (text left : Option (List ℕ)) (reader : ReaderStat
   lines_unmoved reader' left' same =
       subst (λ (r : ReaderState). lines_left r.kept left' ≡ option_map (drop r.count) (lines_left start text)) (sym same.0) (ap (lines_left reader.kept) same.1 ∙ h.lines)
 
-  module _ (reader' : ReaderState) (left' : Option (List ℕ)) (draft' : Draft) (answer : mps.Line) (a : AnswersLine reader reader' left left' 61 4194304 answer) where
+  module _ (reader' : ReaderState) (left' : Option (List ℕ)) (draft' : Draft) (answer : mps.Line) (a : AnswersLine reader reader' left left' 61 byte_limit answer) where
     answered_line : IsLineOf reader reader' left left' answer
     answered_line = line_of reader reader' left left' answer h.counted h.within a
 
@@ -319,7 +307,7 @@ module _ (start : List ℕ) (text left : Option (List ℕ)) (reader : ReaderStat
     pub still_sound : {T E : Type 0} (result : Result T E) → OnOk result (reader'.fault ≡ None)
     still_sound result = on_ok result _ sound_next
 
-    pub rises : (4194304 - reader'.since) < (4194304 - reader.since)
+    pub rises : (byte_limit - reader'.since) < (byte_limit - reader.since)
     rises =
         let l = answered_line in
         omega (arith, l.since, l.sized, l.within)

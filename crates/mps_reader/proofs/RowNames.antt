@@ -1,54 +1,16 @@
 -- Rows by their names.
-use Rattle.std.proofs.Common.{◌≡◌, ◌≢◌, ℕ, zero, suc, ◌+◌, Bool, true, false, not, ◌||◌, cond, List, [], ◌∷◌, length, position, Option, Some, None, is_some, nat_eq, nat_lt, refl, sym, ap, ap₂, ◌∙◌}
+use Rattle.std.proofs.Common.{◌≡◌, ◌≢◌, ℕ, zero, suc, ◌+◌, Bool, true, false, cond, List, [], ◌∷◌, length, position, Option, Some, None, is_some, nat_eq, refl, sym, ap, ap₂, ◌∙◌}
 use Rattle.std.proofs.Math.Numerals.{one-add}
-use Rattle.std.specs.List.{list_any, position_or_len}
 use Rattle.std.specs.Option.{option_map}
 use Rattle.std.specs.Cmp.Lexicographic.{pointwise}
-use Rattle.std.proofs.lemmas.Bool.{and_parts}
-use Rattle.deck_model.proofs.Lookups.{nat_lt-first, nat_lt-next, same_bytes-flip}
+use Rattle.deck_model.proofs.Lookups.{same_bytes-flip}
 use Rattle.lp_model.specs.Deck.{Deck}
 use Rattle.lp_model.specs.Edit.{find_row, same_bytes}
 use Rattle.mps_model.specs.DeckSoFar.{DeckSoFar, RowPlace, dropped, free_place, is_among, objective, place_of, row}
-use Rattle.mps_model.proofs.SameRights.{same_bytes-flipped}
-use Rattle.mps_model.proofs.SameSections.{is_some-position}
+use Rattle.mps_reader.proofs.Names.{same_bytes-flipped}
+use Rattle.mps_reader.proofs.Positions.{is_some-position, list_any-same, position-next, position-same}
 use Rattle.mps_reader.specs.declared.draft.Draft.{Draft}
-use Rattle.mps_reader.specs.Standing.{Stands, slot_of}
-
--- ── equal bytes ──
-
--- names that are the same have one length
-pub length-same : (xs ys : List ℕ) → same_bytes xs ys ≡ true → length xs ≡ length ys
-length-same [] [] e = refl
-length-same [] (y ∷ ys) e = absurd (cc e)
-length-same (x ∷ xs) [] e = absurd (cc e)
-length-same (x ∷ xs) (y ∷ ys) e = ap suc (length-same xs ys (and_parts (nat_eq x y) (same_bytes xs ys) e).1)
-
--- ── positions ──
-
-first_or_next : (b : Bool) (i n : ℕ) → cond (nat_lt (cond (not b) (1 + i) 0) (suc n)) (Some (cond (not b) (1 + i) 0)) None ≡ cond b (Some 0) (option_map (λ k. 1 + k) (cond (nat_lt i n) (Some i) None))
-first_or_next true i n = ap (λ c. cond c (Some 0) None) (nat_lt-first n)
-first_or_next false i n = ap (λ c. cond c (Some (1 + i)) None) (nat_lt-next i n) ∙ by (nat_lt i n)
-  where
-    by : (c : Bool) → cond c (Some (1 + i)) None ≡ option_map (λ k. 1 + k) (cond c (Some i) None)
-    by true = refl
-    by false = refl
-
-module _ {X : Type 0} (p : X → Bool) where
-  -- the first that passes is the head, or it is one further than in the tail
-  pub position-next : (x : X) (xs : List X) → position p (x ∷ xs) ≡ cond (p x) (Some 0) (option_map (λ k. 1 + k) (position p xs))
-  position-next x xs = first_or_next (p x) (position_or_len p xs) (length xs)
-
-module _ {X : Type 0} (p q : X → Bool) (same : (x : X) → p x ≡ q x) where
-  pub list_any-same : (xs : List X) → list_any p xs ≡ list_any q xs
-  list_any-same [] = refl
-  list_any-same (x ∷ xs) = ap₂ (λ a b. a || b) (same x) (list_any-same xs)
-
-  position_or_len-same : (xs : List X) → position_or_len p xs ≡ position_or_len q xs
-  position_or_len-same [] = refl
-  position_or_len-same (x ∷ xs) = ap₂ (λ b n. cond (not b) (1 + n) 0) (same x) (position_or_len-same xs)
-
-  pub position-same : (xs : List X) → position p xs ≡ position q xs
-  position-same xs = ap (λ n. cond (nat_lt n (length xs)) (Some n) None) (position_or_len-same xs)
+use Rattle.mps_reader.specs.Inner.Standing.{Stands, slot_of, slot_with}
 
 -- a name's place among names, sought by its bytes
 pub position-name : (name : List ℕ) (names : List (List ℕ)) → position (pointwise nat_eq name) names ≡ position (λ n. same_bytes n name) names
@@ -88,11 +50,6 @@ abbrev pub place_with : Option ℕ → Option RowPlace → Option RowPlace
 place_with None free = free
 place_with (Some i) free = Some (row i)
 
--- the number of a name, by its index among the rows
-abbrev pub slot_with : ℕ → Option ℕ → Option ℕ → Option ℕ
-slot_with rows None k = option_map (λ n. rows + n) k
-slot_with rows (Some i) k = Some i
-
 module _ (draft : Draft) (s : DeckSoFar) (stands : Stands draft s) (name : List ℕ) where
   place_of-with : place_of s name ≡ place_with (find_row s.deck name) (free_place s.free_rows name)
   place_of-with = by (find_row s.deck name)
@@ -119,11 +76,7 @@ module _ (draft : Draft) (s : DeckSoFar) (stands : Stands draft s) (name : List 
 
 -- a name's number by its indices
 pub slot_of-by : (d : Deck) (names : List (List ℕ)) (name : List ℕ) → slot_of d names name ≡ slot_with (length d.rows) (find_row d name) (position (pointwise nat_eq name) names)
-slot_of-by d names name = by (find_row d name) ∙ sym (ap (λ k. slot_with (length d.rows) (find_row d name) k) (position-name name names))
-  where
-    by : (o : Option ℕ) → elim o [ Some i ↦ Some i | None ↦ option_map (λ k. length d.rows + k) (position (λ n. same_bytes n name) names) ] ≡ slot_with (length d.rows) o (position (λ n. same_bytes n name) names)
-    by None = refl
-    by (Some i) = refl
+slot_of-by d names name = sym (ap (λ k. slot_with (length d.rows) (find_row d name) k) (position-name name names))
 
 place_by-later : (k : ℕ) → k ≢ 0 → place_by (Some k) ≡ Some dropped
 place_by-later zero ne = absurd (ne refl)

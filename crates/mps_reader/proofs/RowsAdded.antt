@@ -1,5 +1,5 @@
 -- A draft with one row more.
-use Rattle.std.proofs.Common.{◌≡◌, ◌≢◌, ℕ, ◌<◌, ◌≤◌, Bool, true, false, ◌||◌, List, [], ◌∷◌, ◌++◌, length, map, position, slice_index_or, Option, Some, None, is_some, Ok, Err, nat_eq, nat_lt, lt-ltb, if◌then◌else◌, refl, sym, ap, ap₂, ◌∙◌, subst, arith}
+use Rattle.std.proofs.Common.{◌≡◌, ◌≢◌, ℕ, ◌<◌, ◌≤◌, Bool, true, false, ◌||◌, List, [], ◌∷◌, ◌++◌, length, position, slice_index_or, Option, Some, None, is_some, Ok, Err, nat_eq, nat_lt, lt-ltb, if◌then◌else◌, refl, sym, ap, ap₂, ◌∙◌, subst, arith}
 use Rattle.std.specs.Cmp.Lexicographic.{pointwise}
 use Rattle.std.specs.List.{list_any}
 use Rattle.std.specs.Option.{option_map}
@@ -10,17 +10,22 @@ use Rattle.lp_model.specs.declared.RowKind.{RowKind}
 use Rattle.lp_model.specs.Deck.{Deck}
 use Rattle.lp_model.specs.Edit.{is_row_name, same_bytes, with_row}
 use Rattle.lp_text.specs.Cards.{field_of}
-use Rattle.lp_text.specs.PlainDeck.{row_limit}
-use Rattle.mps_model.specs.Sections.{columns, has_begun, rows}
-use Rattle.mps_model.specs.DeckSoFar.{DeckSoFar, RowPlace, limit, of_rows, place_of, repeated, row_type}
-use Rattle.mps_model.specs.RowCards.{RowType, judge_row, kept, row_type_of, with_free_row, with_row_of}
+use Rattle.lp_text.specs.Limits.{row_limit}
+use Rattle.mps_model.specs.declared.Section.TheVariants.{Columns, Rows}
+use Rattle.mps_model.specs.Sections.{has_begun}
+use Rattle.lp_text.specs.declared.LineFault.TheVariants as fault
+use Rattle.lp_text.specs.declared.Counted.TheVariants as counted
+use Rattle.mps_model.specs.DeckSoFar.{DeckSoFar, RowPlace, place_of}
+use Rattle.mps_model.specs.declared.RowType.{RowType}
+use Rattle.mps_model.specs.declared.RowType.TheVariants.{Kept}
+use Rattle.mps_model.specs.RowCards.{judge_row, row_type_of, with_free_row, with_row_of}
 use Rattle.mps_reader.specs.declared.bounds.Ends.{Ends}
 use Rattle.mps_reader.specs.declared.draft.Draft.{Draft}
 use Rattle.mps_reader.specs.declared.draft.Place.{Place}
-use Rattle.mps_reader.specs.Kinds.{section_is}
-use Rattle.mps_reader.specs.Standing.{InRows, IsOrdered, Stands, deck_with, is_lowered, no_objective_name, place_is}
-use Rattle.mps_model.proofs.SameSections.{is_some-position}
-use Rattle.mps_reader.proofs.RowNames.{length-same, unplaced}
+use Rattle.mps_reader.specs.Inner.Standing.{InRows, IsOrdered, Stands, deck_with, is_lowered, no_objective_name, place_is}
+use Rattle.mps_reader.proofs.Positions.{is_some-position}
+use Rattle.mps_reader.proofs.Names.{length-same}
+use Rattle.mps_reader.proofs.RowNames.{unplaced}
 use Rattle.mps_reader.proofs.SectionOrder.{before_columns}
 use Rattle.mps_reader.proofs.Slots.{unmarked_none}
 
@@ -73,10 +78,10 @@ short_apart name short = by (same_bytes no_objective_name name) refl
 
 module _ (draft : Draft) (s : DeckSoFar) (h : Stands draft s) (at : InRows draft) where
   -- in the section of the rows the columns have not begun
-  pub no_columns : has_begun columns s.begun ≡ false
+  pub no_columns : has_begun Columns s.begun ≡ false
   no_columns =
-      let e : s.begun ≡ rows ∷ map section_is at.0 = h.begun ∙ ap (map section_is) at.1 in
-      ap (has_begun columns) e ∙ before_columns (map section_is at.0) (subst IsOrdered e h.ordered)
+      let e : s.begun ≡ Rows ∷ at.0 = h.begun ∙ at.1 in
+      ap (has_begun Columns) e ∙ before_columns (at.0) (subst IsOrdered e h.ordered)
 
   pub no_column : length draft.deck.columns ≡ 0
   no_column = ap length (h.early no_columns)
@@ -87,7 +92,7 @@ module _ (draft : Draft) (s : DeckSoFar) (h : Stands draft s) (at : InRows draft
   grown new deck free_rows begun set named bounds is names columns_same objective =
       let blank : new.named ≡ [] = named ∙ h.blank no_columns in
       record {
-        begun = h.begun ∙ ap (λ b. map section_is b.items) (sym begun);
+        begun = h.begun ∙ ap (λ b. b.items) (sym begun);
         deck = is;
         free_rows = names;
         set = h.set ∙ sym set;
@@ -99,7 +104,7 @@ module _ (draft : Draft) (s : DeckSoFar) (h : Stands draft s) (at : InRows draft
         ordered = h.ordered;
         early = λ none. columns_same ∙ h.early none;
         blank = λ none. blank;
-        entered = λ before e. let none : false ≡ true = sym no_columns ∙ ap (has_begun columns) e in absurd (cc none);
+        entered = λ before e. let none : false ≡ true = sym no_columns ∙ ap (has_begun Columns) e in absurd (cc none);
       }
 
   -- an N row more
@@ -139,17 +144,17 @@ module _ (draft : Draft) (s : DeckSoFar) (h : Stands draft s) (at : InRows draft
   row_count = ap (λ d. length d.rows) h.deck
 
   -- a row where there is room
-  pub room : (name : List ℕ) (kind : RowKind) → length draft.deck.rows < 400 → with_row_of s name (kept kind) ≡ Ok (record s { deck = with_row s.deck name kind })
+  pub room : (name : List ℕ) (kind : RowKind) → length draft.deck.rows < row_limit → with_row_of s name (Kept kind) ≡ Ok (record s { deck = with_row s.deck name kind })
   room name kind below =
-      let test : nat_lt (length s.deck.rows) row_limit ≡ true = ap (λ n. nat_lt n 400) row_count ∙ lt-ltb (length draft.deck.rows) 400 below in
-      ap (λ b. if b then Ok (record s { deck = with_row s.deck name kind }) else Err (limit of_rows)) test
+      let test : nat_lt (length s.deck.rows) row_limit ≡ true = ap (λ n. nat_lt n row_limit) row_count ∙ lt-ltb (length draft.deck.rows) row_limit below in
+      ap (λ b. if b then Ok (record s { deck = with_row s.deck name kind }) else Err (fault.Limit counted.Rows)) test
 
   -- a row where there is none
-  pub full : (name : List ℕ) (kind : RowKind) → 400 ≤ length draft.deck.rows → with_row_of s name (kept kind) ≡ Err (limit of_rows)
+  pub full : (name : List ℕ) (kind : RowKind) → row_limit ≤ length draft.deck.rows → with_row_of s name (Kept kind) ≡ Err (fault.Limit counted.Rows)
   full name kind above =
-      let past : nat_lt (length draft.deck.rows) 400 ≡ false = grind (arith, nat_tests) in
-      let test : nat_lt (length s.deck.rows) row_limit ≡ false = ap (λ n. nat_lt n 400) row_count ∙ past in
-      ap (λ b. if b then Ok (record s { deck = with_row s.deck name kind }) else Err (limit of_rows)) test
+      let past : nat_lt (length draft.deck.rows) row_limit ≡ false = grind (arith, nat_tests) in
+      let test : nat_lt (length s.deck.rows) row_limit ≡ false = ap (λ n. nat_lt n row_limit) row_count ∙ past in
+      ap (λ b. if b then Ok (record s { deck = with_row s.deck name kind }) else Err (fault.Limit counted.Rows)) test
 
 -- ── the card of a row ──
 
@@ -160,7 +165,7 @@ no_place (Some p) place e none = absurd (cc none)
 
 module _ (s : DeckSoFar) (fields : List (List ℕ)) where
   pub judged_by : (kind : RowType) → row_type_of (field_of fields 1) ≡ Some kind → place_of s (field_of fields 2) ≡ None → judge_row s fields ≡ with_row_of s (field_of fields 2) kind
-  judged_by kind typed none = ap₂ (λ o p. elim o [ None ↦ Err row_type | Some k ↦ if is_some p then Err repeated else with_row_of s (field_of fields 2) k ]) typed none
+  judged_by kind typed none = ap₂ (λ o p. elim o [ None ↦ Err fault.RowType | Some k ↦ if is_some p then Err fault.Repeated else with_row_of s (field_of fields 2) k ]) typed none
 
   -- the same, of a name that is the card's
   pub judged_named : (kind : RowType) (name : List ℕ) → row_type_of (field_of fields 1) ≡ Some kind → name ≡ field_of fields 2 → place_of s name ≡ None → judge_row s fields ≡ with_row_of s name kind

@@ -1,17 +1,17 @@
 -- A draft with a section begun.
-use Rattle.std.proofs.Common.{◌≡◌, ◌≢◌, ℕ, ◌+◌, ◌-◌, true, false, List, [], ◌∷◌, length, map, get_or, replicate, Some, None, Ok, Err, if◌then◌else◌, refl, sym, ap, ap₂, ◌∙◌}
+use Rattle.std.proofs.Common.{◌≡◌, ◌≢◌, ℕ, ◌+◌, ◌-◌, true, false, List, [], ◌∷◌, length, get_or, replicate, Some, None, Ok, Err, if◌then◌else◌, refl, sym, ap, ap₂, ◌∙◌}
 use Rattle.std.proofs.lemmas.List.{length-replicate}
 use Rattle.lp_model.specs.Deck.{Deck, column, no_column}
 use Rattle.lp_model.specs.Edit.{has_entry}
 use Rattle.lp_text.specs.Cards.{field_of}
-use Rattle.mps_model.specs.Sections.{Section, columns, has_begun, may_begin, section_of, title}
-use Rattle.mps_model.specs.DeckSoFar.{DeckSoFar, section}
+use Rattle.mps_model.specs.declared.Section.{Section}
+use Rattle.mps_model.specs.declared.Section.TheVariants.{Bounds, Columns, Finish, Ranges, RightSides, Rows, Title}
+use Rattle.mps_model.specs.Sections.{has_begun, may_begin, section_of}
+use Rattle.lp_text.specs.declared.LineFault.TheVariants as fault
+use Rattle.mps_model.specs.DeckSoFar.{DeckSoFar}
 use Rattle.mps_model.specs.Judgement.{begin_section, judge_section}
 use Rattle.mps_reader.specs.declared.draft.Draft.{Draft}
-use Rattle.mps_reader.specs.declared.section.Section.{Section as Begun}
-use Rattle.mps_reader.specs.declared.section.Section.TheVariants as code
-use Rattle.mps_reader.specs.Kinds.{section_is}
-use Rattle.mps_reader.specs.Standing.{Stands, deck_with, is_lowered, is_marked, no_objective_name, slot_of}
+use Rattle.mps_reader.specs.Inner.Standing.{Stands, deck_with, is_lowered, is_marked, no_objective_name, slot_of}
 use Rattle.mps_reader.proofs.SectionOrder.{not_yet, title_first}
 use Rattle.mps_reader.proofs.Slots.{unmarked, unmarked_none}
 
@@ -20,14 +20,14 @@ no_entry : (d : Deck) (i : ℕ) → d.columns ≡ [] → has_entry (column d (le
 no_entry d i e = ap (λ cs. has_entry (get_or cs (length cs - 1) no_column).entries i) e
 
 module _ (draft : Draft) (s : DeckSoFar) (h : Stands draft s) where
-  opened : (k : Begun) (new : Draft) → new.begun.items ≡ k ∷ draft.begun.items → new.deck ≡ draft.deck → new.free_rows ≡ draft.free_rows → new.set ≡ None → new.bounds ≡ draft.bounds
-      → (n : ℕ) → new.named ≡ replicate n None → may_begin (section_is k) s.begun ≡ true
-      → (has_begun columns (section_is k ∷ s.begun) ≡ true → n ≡ length draft.deck.rows + length draft.free_rows.keys)
-      → (has_begun columns (section_is k ∷ s.begun) ≡ false → (draft.deck.columns ≡ []) × (n ≡ 0))
-      → (section_is k ≡ columns → draft.deck.columns ≡ [])
-      → Stands new (record s { begun = section_is k ∷ s.begun; set = None; named = [] })
+  opened : (k : Section) (new : Draft) → new.begun.items ≡ k ∷ draft.begun.items → new.deck ≡ draft.deck → new.free_rows ≡ draft.free_rows → new.set ≡ None → new.bounds ≡ draft.bounds
+      → (n : ℕ) → new.named ≡ replicate n None → may_begin k s.begun ≡ true
+      → (has_begun Columns (k ∷ s.begun) ≡ true → n ≡ length draft.deck.rows + length draft.free_rows.keys)
+      → (has_begun Columns (k ∷ s.begun) ≡ false → (draft.deck.columns ≡ []) × (n ≡ 0))
+      → (k ≡ Columns → draft.deck.columns ≡ [])
+      → Stands new (record s { begun = k ∷ s.begun; set = None; named = [] })
   opened k new begun deck free_rows set bounds n named may full empty first = record {
-    begun = ap (λ b. section_is k ∷ b) h.begun ∙ sym (ap (map section_is) begun);
+    begun = ap (λ b. k ∷ b) h.begun ∙ sym (begun);
     deck = h.deck ∙ ap₂ (λ d names. deck_with d names.keys draft.bounds.items) (sym deck) (sym free_rows) ∙ ap (λ b. deck_with new.deck new.free_rows.keys b.items) (sym bounds);
     free_rows = h.free_rows ∙ ap (λ names. names.keys) (sym free_rows);
     set = sym set;
@@ -40,43 +40,43 @@ module _ (draft : Draft) (s : DeckSoFar) (h : Stands draft s) where
     early = λ e. ap (λ d. d.columns) deck ∙ (empty e).0;
     blank = λ e. named ∙ ap (λ m. replicate m None) (empty e).1;
     entered = λ before e i entry.
-        let same : section_is k ≡ columns = cc e in
+        let same : k ≡ Columns = cc e in
         let none : false ≡ true = sym (no_entry new.deck i (ap (λ d. d.columns) deck ∙ first same)) ∙ entry in
         absurd (cc none);
   }
 
   -- the columns, which have named no row
-  pub columns_begun : (new : Draft) (fields : List (List ℕ)) → new.begun.items ≡ code.Columns ∷ draft.begun.items → new.deck ≡ draft.deck → new.free_rows ≡ draft.free_rows → new.set ≡ None → new.bounds ≡ draft.bounds
-      → new.named ≡ replicate (length draft.deck.rows + length draft.free_rows.keys) None → may_begin columns s.begun ≡ true → Stands new (begin_section s columns fields)
+  pub columns_begun : (new : Draft) (fields : List (List ℕ)) → new.begun.items ≡ Columns ∷ draft.begun.items → new.deck ≡ draft.deck → new.free_rows ≡ draft.free_rows → new.set ≡ None → new.bounds ≡ draft.bounds
+      → new.named ≡ replicate (length draft.deck.rows + length draft.free_rows.keys) None → may_begin Columns s.begun ≡ true → Stands new (begin_section s Columns fields)
   columns_begun new fields begun deck free_rows set bounds named may =
-      opened code.Columns new begun deck free_rows set bounds (length draft.deck.rows + length draft.free_rows.keys) named may
+      opened Columns new begun deck free_rows set bounds (length draft.deck.rows + length draft.free_rows.keys) named may
       (λ e. refl) (λ e. absurd (cc e)) (λ e. h.early (not_yet s.begun may))
 
   -- another section than the title and the columns
-  pub other_begun : (k : Begun) → k ≢ code.Title → k ≢ code.Columns → (new : Draft) (fields : List (List ℕ)) → new.begun.items ≡ k ∷ draft.begun.items → new.deck ≡ draft.deck → new.free_rows ≡ draft.free_rows → new.set ≡ None
-      → new.bounds ≡ draft.bounds → new.named ≡ replicate (length draft.named) None → may_begin (section_is k) s.begun ≡ true → Stands new (begin_section s (section_is k) fields)
-  other_begun code.Title nt nc new fields begun deck free_rows set bounds named may = absurd (nt refl)
-  other_begun code.Columns nt nc new fields begun deck free_rows set bounds named may = absurd (nc refl)
-  other_begun code.Rows nt nc new fields begun deck free_rows set bounds named may =
-      opened code.Rows new begun deck free_rows set bounds (length draft.named) named may h.marks (λ e. (h.early e, ap length (h.blank e))) (λ e. absurd (cc e))
-  other_begun code.RightSides nt nc new fields begun deck free_rows set bounds named may =
-      opened code.RightSides new begun deck free_rows set bounds (length draft.named) named may h.marks (λ e. (h.early e, ap length (h.blank e))) (λ e. absurd (cc e))
-  other_begun code.Ranges nt nc new fields begun deck free_rows set bounds named may =
-      opened code.Ranges new begun deck free_rows set bounds (length draft.named) named may h.marks (λ e. (h.early e, ap length (h.blank e))) (λ e. absurd (cc e))
-  other_begun code.Bounds nt nc new fields begun deck free_rows set bounds named may =
-      opened code.Bounds new begun deck free_rows set bounds (length draft.named) named may h.marks (λ e. (h.early e, ap length (h.blank e))) (λ e. absurd (cc e))
-  other_begun code.Finish nt nc new fields begun deck free_rows set bounds named may =
-      opened code.Finish new begun deck free_rows set bounds (length draft.named) named may h.marks (λ e. (h.early e, ap length (h.blank e))) (λ e. absurd (cc e))
+  pub other_begun : (k : Section) → k ≢ Title → k ≢ Columns → (new : Draft) (fields : List (List ℕ)) → new.begun.items ≡ k ∷ draft.begun.items → new.deck ≡ draft.deck → new.free_rows ≡ draft.free_rows → new.set ≡ None
+      → new.bounds ≡ draft.bounds → new.named ≡ replicate (length draft.named) None → may_begin k s.begun ≡ true → Stands new (begin_section s k fields)
+  other_begun Title nt nc new fields begun deck free_rows set bounds named may = absurd (nt refl)
+  other_begun Columns nt nc new fields begun deck free_rows set bounds named may = absurd (nc refl)
+  other_begun Rows nt nc new fields begun deck free_rows set bounds named may =
+      opened Rows new begun deck free_rows set bounds (length draft.named) named may h.marks (λ e. (h.early e, ap length (h.blank e))) (λ e. absurd (cc e))
+  other_begun RightSides nt nc new fields begun deck free_rows set bounds named may =
+      opened RightSides new begun deck free_rows set bounds (length draft.named) named may h.marks (λ e. (h.early e, ap length (h.blank e))) (λ e. absurd (cc e))
+  other_begun Ranges nt nc new fields begun deck free_rows set bounds named may =
+      opened Ranges new begun deck free_rows set bounds (length draft.named) named may h.marks (λ e. (h.early e, ap length (h.blank e))) (λ e. absurd (cc e))
+  other_begun Bounds nt nc new fields begun deck free_rows set bounds named may =
+      opened Bounds new begun deck free_rows set bounds (length draft.named) named may h.marks (λ e. (h.early e, ap length (h.blank e))) (λ e. absurd (cc e))
+  other_begun Finish nt nc new fields begun deck free_rows set bounds named may =
+      opened Finish new begun deck free_rows set bounds (length draft.named) named may h.marks (λ e. (h.early e, ap length (h.blank e))) (λ e. absurd (cc e))
 
   -- the title, which comes first
-  pub title_begun : (new : Draft) (fields : List (List ℕ)) → new.begun.items ≡ code.Title ∷ draft.begun.items → new.deck ≡ record draft.deck { name = field_of fields 3 } → new.free_rows ≡ draft.free_rows → new.set ≡ draft.set
-      → new.bounds ≡ draft.bounds → new.named ≡ draft.named → may_begin title s.begun ≡ true → Stands new (begin_section s title fields)
+  pub title_begun : (new : Draft) (fields : List (List ℕ)) → new.begun.items ≡ Title ∷ draft.begun.items → new.deck ≡ record draft.deck { name = field_of fields 3 } → new.free_rows ≡ draft.free_rows → new.set ≡ draft.set
+      → new.bounds ≡ draft.bounds → new.named ≡ draft.named → may_begin Title s.begun ≡ true → Stands new (begin_section s Title fields)
   title_begun new fields begun deck free_rows set bounds named may =
       let none : s.begun ≡ [] = title_first s.begun may in
-      let early : has_begun columns s.begun ≡ false = ap (has_begun columns) none in
+      let early : has_begun Columns s.begun ≡ false = ap (has_begun Columns) none in
       let blank : new.named ≡ [] = named ∙ h.blank early in
       record {
-        begun = ap (λ b. title ∷ b) h.begun ∙ sym (ap (map section_is) begun);
+        begun = ap (λ b. Title ∷ b) h.begun ∙ sym (begun);
         deck =
             ap (λ (d : Deck). record d { name = field_of fields 3 }) h.deck
             ∙ ap₂ (λ d names. deck_with d names.keys draft.bounds.items) (sym deck) (sym free_rows) ∙ ap (λ b. deck_with new.deck new.free_rows.keys b.items) (sym bounds);
@@ -98,5 +98,5 @@ module _ (draft : Draft) (s : DeckSoFar) (h : Stands draft s) where
 module _ (s : DeckSoFar) (fields : List (List ℕ)) where
   pub section_taken : (kind : Section) → section_of (field_of fields 1) ≡ Some kind → may_begin kind s.begun ≡ true → judge_section s fields ≡ Ok (begin_section s kind fields)
   section_taken kind known may =
-      ap (λ o. elim o [ None ↦ Err section | Some k ↦ if may_begin k s.begun then Ok (begin_section s k fields) else Err section ]) known
-      ∙ ap (λ t. if t then Ok (begin_section s kind fields) else Err section) may
+      ap (λ o. elim o [ None ↦ Err fault.Section | Some k ↦ if may_begin k s.begun then Ok (begin_section s k fields) else Err fault.Section ]) known
+      ∙ ap (λ t. if t then Ok (begin_section s kind fields) else Err fault.Section) may

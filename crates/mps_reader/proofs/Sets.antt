@@ -8,7 +8,7 @@ use Rattle.lp_model.specs.Edit.{same_bytes}
 use Rattle.mps_model.specs.DeckSoFar.{DeckSoFar}
 use Rattle.mps_model.specs.PairCards.{with_set}
 use Rattle.mps_reader.specs.declared.draft.Draft.{Draft}
-use Rattle.mps_reader.specs.Standing.{Stands}
+use Rattle.mps_reader.specs.Inner.Standing.{Stands}
 
 module _ (draft : Draft) (s : DeckSoFar) (h : Stands draft s) (name : List ℕ) where
   with_set-stands : (set : Option (List ℕ)) → set ≡ Some (unwrap_or s.set name) → Stands (record draft { set = set }) (with_set s name)

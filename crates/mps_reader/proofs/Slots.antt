@@ -1,7 +1,7 @@
 -- Marks of rows, and the numbers of rows.
 use Rattle.std.proofs.Common.{◌≡◌, ℕ, zero, suc, Bool, false, List, [], replicate, Option, Some, None, is_some, refl, ap, ◌∙◌}
 use Rattle.sparse_cols.specs.Work.{value_in}
-use Rattle.mps_reader.specs.Standing.{is_marked}
+use Rattle.mps_reader.specs.Inner.Standing.{is_marked}
 
 cleared : (n k : ℕ) → value_in {V = Bool} (replicate n None) k ≡ None
 cleared zero k = refl

@@ -6,7 +6,7 @@ use Rattle.rational.specs.Rational.{ℚ, eq_ℚ, zero_ℚ}
 use Rattle.lp_model.specs.Deck.{Column, Deck, Interval, no_column, nonnegative}
 use Rattle.lp_model.specs.Edit.{change_column, entry_count, find_column, insert_entry, same_bytes, with_column, with_cost, with_entry}
 use Rattle.mps_reader.specs.declared.bounds.Ends.{Ends}
-use Rattle.mps_reader.specs.Standing.{bounds_of, deck_with, with_ends}
+use Rattle.mps_reader.specs.Inner.Standing.{interval_of, deck_with, with_ends}
 
 -- ── lists of columns ──
 
@@ -20,14 +20,14 @@ module _ {X : Type 0} (f : Column → X) (blind : (c : Column) (b : Interval) �
   pub get_or-with_ends : (cs : List Column) (ends : List Ends) (j : ℕ) → f (get_or (with_ends cs ends) j no_column) ≡ f (get_or cs j no_column)
   get_or-with_ends [] ends j = refl
   get_or-with_ends (c ∷ cs) [] j = refl
-  get_or-with_ends (c ∷ cs) (e ∷ ends) zero = blind c (bounds_of e)
+  get_or-with_ends (c ∷ cs) (e ∷ ends) zero = blind c (interval_of e)
   get_or-with_ends (c ∷ cs) (e ∷ ends) (suc j) = get_or-with_ends cs ends j
 
 module _ (p : Column → Bool) (blind : (c : Column) (b : Interval) → p (record c { bounds = b }) ≡ p c) where
   pub place-with_ends : (cs : List Column) (ends : List Ends) → position_or_len p (with_ends cs ends) ≡ position_or_len p cs
   place-with_ends [] ends = refl
   place-with_ends (c ∷ cs) [] = refl
-  place-with_ends (c ∷ cs) (e ∷ ends) = ap₂ (λ b n. cond (not b) (1 + n) 0) (blind c (bounds_of e)) (place-with_ends cs ends)
+  place-with_ends (c ∷ cs) (e ∷ ends) = ap₂ (λ b n. cond (not b) (1 + n) 0) (blind c (interval_of e)) (place-with_ends cs ends)
 
   pub position-with_ends : (cs : List Column) (ends : List Ends) → position p (with_ends cs ends) ≡ position p cs
   position-with_ends cs ends = ap₂ (λ n m. cond (nat_lt n m) (Some n) None) (place-with_ends cs ends) (length-with_ends cs ends)
@@ -37,17 +37,17 @@ module _ (f : Column → ℕ) (blind : (c : Column) (b : Interval) → f (record
   sum_by-with_ends [] ends = refl
   sum_by-with_ends (c ∷ cs) [] = refl
   sum_by-with_ends (c ∷ cs) (e ∷ ends) =
-      sum_by-cons f (record c { bounds = bounds_of e }) (with_ends cs ends) ∙ ap₂ (λ n m. n + m) (blind c (bounds_of e)) (sum_by-with_ends cs ends)
+      sum_by-cons f (record c { bounds = interval_of e }) (with_ends cs ends) ∙ ap₂ (λ n m. n + m) (blind c (interval_of e)) (sum_by-with_ends cs ends)
       ∙ sym (sum_by-cons f c cs)
 
 -- one column more, with its ends
-pub push-with_ends : (cs : List Column) (ends : List Ends) (c : Column) (e : Ends) → length ends ≡ length cs → with_ends (cs ++ c ∷ []) (ends ++ e ∷ []) ≡ with_ends cs ends ++ record c { bounds = bounds_of e } ∷ []
+pub push-with_ends : (cs : List Column) (ends : List Ends) (c : Column) (e : Ends) → length ends ≡ length cs → with_ends (cs ++ c ∷ []) (ends ++ e ∷ []) ≡ with_ends cs ends ++ record c { bounds = interval_of e } ∷ []
 push-with_ends [] [] c e same = refl
 push-with_ends [] (x ∷ ends) c e same = absurd (cc same)
 push-with_ends (b ∷ cs) [] c e same = absurd (cc same)
 push-with_ends (b ∷ cs) (x ∷ ends) c e same =
     let fewer : length ends ≡ length cs = cc same in
-    ap (λ l. record b { bounds = bounds_of x } ∷ l) (push-with_ends cs ends c e fewer)
+    ap (λ l. record b { bounds = interval_of x } ∷ l) (push-with_ends cs ends c e fewer)
 
 -- a change of one column that leaves its bounds
 module _ (f : Column → Column) (blind : (c : Column) (b : Interval) → f (record c { bounds = b }) ≡ record (f c) { bounds = b }) where
@@ -55,8 +55,8 @@ module _ (f : Column → Column) (blind : (c : Column) (b : Interval) → f (rec
   set-with_ends [] ends j = refl
   set-with_ends (c ∷ cs) [] zero = refl
   set-with_ends (c ∷ cs) [] (suc j) = refl
-  set-with_ends (c ∷ cs) (e ∷ ends) zero = ap (λ x. x ∷ with_ends cs ends) (blind c (bounds_of e))
-  set-with_ends (c ∷ cs) (e ∷ ends) (suc j) = ap (λ l. record c { bounds = bounds_of e } ∷ l) (set-with_ends cs ends j)
+  set-with_ends (c ∷ cs) (e ∷ ends) zero = ap (λ x. x ∷ with_ends cs ends) (blind c (interval_of e))
+  set-with_ends (c ∷ cs) (e ∷ ends) (suc j) = ap (λ l. record c { bounds = interval_of e } ∷ l) (set-with_ends cs ends j)
 
 -- ── decks ──
 
@@ -71,7 +71,7 @@ module _ (d : Deck) (free_rows : List (List ℕ)) (ends : List Ends) where
   deck_with-entry_count = sum_by-with_ends (λ c. length c.entries + cond (eq_ℚ c.cost zero_ℚ) 0 1) (λ c b. refl) d.columns ends
 
   -- a new column, whose ends go to the end
-  pub deck_with-with_column : (name : List ℕ) (e : Ends) → bounds_of e ≡ nonnegative → length ends ≡ length d.columns → deck_with (with_column d name) free_rows (ends ++ e ∷ []) ≡ with_column (deck_with d free_rows ends) name
+  pub deck_with-with_column : (name : List ℕ) (e : Ends) → interval_of e ≡ nonnegative → length ends ≡ length d.columns → deck_with (with_column d name) free_rows (ends ++ e ∷ []) ≡ with_column (deck_with d free_rows ends) name
   deck_with-with_column name e up same =
       ap (λ cs. record (deck_with d free_rows ends) { columns = cs })
       (push-with_ends d.columns ends (record no_column { name = name }) e same ∙ ap (λ b. with_ends d.columns ends ++ record no_column { name = name; bounds = b } ∷ []) up)

@@ -1,14 +1,15 @@
 -- The answers of the reader.
 use Rattle.std.specs.Prelude.{◌≡◌, ◌≢◌, ◌≤◌, ◌++◌, ℕ, List, [], length, Option, Some, None, IfSome}
 use Rattle.io_ends.specs.Bytes.{Gives}
-use Rattle.lp_text.specs.PlainDeck.{byte_limit}
+use Rattle.lp_text.specs.Limits.{byte_limit}
 use Rattle.mps_cards.specs.ReaderState.{ReaderState}
-use Rattle.mps_cards.specs.declared.faults.LineFault.TheVariants.{Read, TooMany}
-use Rattle.mps_model.specs.DeckSoFar.{limit, of_bytes}
-use Rattle.mps_model.specs.DeckOf.{DeckFault as TextFault, HasFault, IsOpen, crossed_bounds, in_line, no_end, no_objective}
+use Rattle.mps_cards.specs.declared.faults.ReadFault.TheVariants.{Read, TooMany}
+use Rattle.lp_text.specs.declared.LineFault.TheVariants.{Limit}
+use Rattle.lp_text.specs.declared.Counted.TheVariants.{Bytes}
+use Rattle.mps_model.specs.DeckOf.{TextFault, HasFault, IsOpen, crossed_bounds, in_line, no_end, no_objective}
 use Rattle.mps_reader.specs.declared.faults.DeckFault.{DeckFault}
 use Rattle.mps_reader.specs.declared.faults.DeckFault.TheVariants as fault
-use Rattle.mps_reader.specs.Refusals.{text_fault}
+use Rattle.mps_reader.specs.Faults.{text_fault}
 
 -- a reader that has answered no line
 pub record IsFresh (reader : ReaderState) : Type 0 where
@@ -27,7 +28,7 @@ pub record HasAnswered (n : ℕ) (reader : ReaderState) : Type 0 where
 
 -- where the reader stands at a text's fault: past the limit of bytes it gives that fault again; else it is behind the line whose card has the fault, at the end of the text, or behind lines that are not said where the deck's end has it
 abbrev pub StandsAt : TextFault → ReaderState → Type 0
-StandsAt (in_line n (limit of_bytes)) reader = reader.fault ≡ Some (TooMany n)
+StandsAt (in_line n (Limit Bytes)) reader = reader.fault ≡ Some (TooMany n)
 StandsAt (in_line n other) reader = HasAnswered n reader
 StandsAt (no_end n) reader = HasAnswered n reader
 StandsAt no_objective reader = reader.fault ≡ None

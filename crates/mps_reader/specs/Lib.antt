@@ -1,6 +1,3 @@
-pub mod Kinds
-pub mod Refusals
-pub mod Standing
+pub mod Faults
 pub mod Answers
-pub mod Placed
-pub mod Reached
+pub mod Inner

@@ -5,29 +5,18 @@ ghost use Rattle.deck_model.specs.End.{finite_end};
 ghost use Rattle.mps_model.specs.DeckSoFar.{DeckSoFar};
 ghost use Rattle.mps_model.specs.BoundCards.{bound_number, bounds_after, has_number, infinity, is_wrong_infinity, judge_bound, kind_of, lower_end, sets_lower, upper_end};
 ghost use Rattle.mps_model.specs.DeckOf.{is_crossed};
-ghost use Rattle.mps_reader.specs.Kinds.{bound_is};
-ghost use Rattle.mps_reader.specs.Refusals.{line_fault};
-ghost use Rattle.mps_reader.specs.Standing.{IsFound, Judged, Stands, bounds_of};
+ghost use Rattle.mps_reader.specs.Inner.Refusals.{line_fault};
+ghost use Rattle.mps_reader.specs.Inner.Standing.{IsFound, Judged, Stands, interval_of};
 
 use crate::draft::Draft;
 use crate::refusal::Refusal;
 use deck_model::{End, Name};
 use exact_frac::Frac;
+use lp_text::LineFault;
 use mps_cards::Fields;
+use mps_model::BoundKind;
 use number_fields::field;
 use std::alloc::Global;
-
-// What a bound sets: the upper end, the lower end, both to one number, both to infinity, the lower end to -∞, the upper
-// end to ∞.
-#[derive(Clone, Copy, Debug, PartialEq, Eq)]
-enum BoundKind {
-    Upper,
-    Lower,
-    Fixed,
-    Free,
-    Minus,
-    Plus,
-}
 
 // The bounds of a column, absent ends being infinite, and whether a bound has set the lower one.
 #[derive(Clone, Copy, Debug, PartialEq, Eq)]
@@ -66,69 +55,67 @@ fn above_infinity(value: Frac) -> Option<Frac>
     }
 }
 
-impl BoundKind {
-    // The kind of a word.
-    #[tactic(auto, using(crate::proofs::BoundWords::no_kind))]
-    fn of(word: &[u8]) -> Result<BoundKind, Refusal>
-        ensures { MatchResult result (λ kind. kind_of word.now ≡ Ok (bound_is kind)) (λ refusal. IsFound (kind_of word.now) (line_fault refusal)) }
-    {
-        match word {
-            b"UP" => Ok(BoundKind::Upper),
-            b"LO" => Ok(BoundKind::Lower),
-            b"FX" => Ok(BoundKind::Fixed),
-            b"FR" => Ok(BoundKind::Free),
-            b"MI" => Ok(BoundKind::Minus),
-            b"PL" => Ok(BoundKind::Plus),
-            b"BV" | b"LI" | b"UI" | b"SC" => Err(Refusal::Integer),
-            _ => Err(Refusal::Bound),
-        }
+// The kind of a word.
+#[tactic(auto, using(crate::proofs::BoundWords::no_kind))]
+fn kind_of(word: &[u8]) -> Result<BoundKind, Refusal>
+    ensures { MatchResult result (λ kind. kind_of word.now ≡ Ok kind) (λ refusal. IsFound (kind_of word.now) (line_fault refusal)) }
+{
+    match word {
+        b"UP" => Ok(BoundKind::Upper),
+        b"LO" => Ok(BoundKind::Lower),
+        b"FX" => Ok(BoundKind::Fixed),
+        b"FR" => Ok(BoundKind::Free),
+        b"MI" => Ok(BoundKind::Minus),
+        b"PL" => Ok(BoundKind::Plus),
+        b"BV" | b"LI" | b"UI" | b"SC" => Err(Refusal::Fault(LineFault::Integer)),
+        _ => Err(Refusal::Fault(LineFault::Bound)),
     }
+}
 
-    // Whether a bound of the kind has a number.
-    fn has_number(self) -> bool
-        ensures { result ≡ has_number (bound_is self) }
-    {
-        matches!(self, BoundKind::Upper | BoundKind::Lower | BoundKind::Fixed)
-    }
+// Whether a bound of the kind has a number.
+fn has_number(kind: BoundKind) -> bool
+    ensures { result ≡ has_number kind }
+{
+    matches!(kind, BoundKind::Upper | BoundKind::Lower | BoundKind::Fixed)
+}
 
-    // Whether a bound of the kind sets the lower end.
-    fn sets_lower(self) -> bool
-        ensures { result ≡ sets_lower (bound_is self) }
-    {
-        matches!(
-            self,
-            BoundKind::Lower | BoundKind::Fixed | BoundKind::Free | BoundKind::Minus
-        )
-    }
+// Whether a bound of the kind sets the lower end.
+fn sets_lower(kind: BoundKind) -> bool
+    ensures { result ≡ sets_lower kind }
+{
+    matches!(
+        kind,
+        BoundKind::Lower | BoundKind::Fixed | BoundKind::Free | BoundKind::Minus
+    )
+}
 
-    // Whether the number is an infinity that the kind does not admit.
-    fn is_wrong_infinity(self, value: Frac) -> bool
-        ensures { result ≡ is_wrong_infinity (bound_is self) value }
-    {
-        match self {
-            BoundKind::Upper => value <= infinity().negated(),
-            BoundKind::Lower => infinity() <= value,
-            BoundKind::Fixed => value <= infinity().negated() || infinity() <= value,
-            BoundKind::Free | BoundKind::Minus | BoundKind::Plus => false,
-        }
+// Whether the number is an infinity that the kind does not admit.
+fn is_wrong_infinity(kind: BoundKind, value: Frac) -> bool
+    ensures { result ≡ is_wrong_infinity kind value }
+{
+    match kind {
+        BoundKind::Upper => value <= infinity().negated(),
+        BoundKind::Lower => infinity() <= value,
+        BoundKind::Fixed => value <= infinity().negated() || infinity() <= value,
+        BoundKind::Free | BoundKind::Minus | BoundKind::Plus => false,
     }
+}
 
-    // The number of a bound; a kind without one leaves the field unread.
-    #[tactic(auto, using(exact_frac::specs::Constants::constants))]
-    fn number(self, text: &[u8]) -> Result<Frac, Refusal>
-        ensures { MatchResult result (λ value. bound_number (bound_is self) text.now ≡ Ok value) (λ refusal. IsFound (bound_number (bound_is self) text.now) (line_fault refusal)) }
-    {
-        if !self.has_number() {
-            return Ok(Frac::ZERO);
-        }
-        let Ok(value) = field(text) else {
-            return Err(Refusal::Number);
-        };
-        if self.is_wrong_infinity(value) {
-            return Err(Refusal::Bound);
-        }
-        Ok(value)
+// The number of a bound; a kind without one leaves the field unread.
+#[tactic(auto, using(exact_frac::specs::Constants::constants))]
+fn bound_number(kind: BoundKind, text: &[u8]) -> Result<Frac, Refusal>
+    ensures { MatchResult result (λ value. bound_number kind text.now ≡ Ok value) (λ refusal. IsFound (bound_number kind text.now) (line_fault refusal)) }
+{
+    if !has_number(kind) {
+        return Ok(Frac::ZERO);
     }
+    let Ok(value) = field(text) else {
+        return Err(Refusal::Fault(LineFault::Number));
+    };
+    if is_wrong_infinity(kind, value) {
+        return Err(Refusal::Fault(LineFault::Bound));
+    }
+    Ok(value)
 }
 
 impl Ends {
@@ -153,8 +140,8 @@ impl Ends {
 
     // The ends after a bound of the kind with the number.
     fn after(self, kind: BoundKind, value: Frac) -> Ends
-        ensures bounds { bounds_of result ≡ bounds_after (bound_is kind) value self.is_lowered (bounds_of self) }
-        ensures lowered { result.is_lowered ≡ (sets_lower (bound_is kind) || self.is_lowered) }
+        ensures bounds { interval_of result ≡ bounds_after kind value self.is_lowered (interval_of self) }
+        ensures lowered { result.is_lowered ≡ (sets_lower kind || self.is_lowered) }
     {
         let (lower, upper) = match kind {
             BoundKind::Upper => (self.lower_below(value), below_infinity(value)),
@@ -167,13 +154,13 @@ impl Ends {
         Ends {
             lower,
             upper,
-            is_lowered: kind.sets_lower() || self.is_lowered,
+            is_lowered: sets_lower(kind) || self.is_lowered,
         }
     }
 
     // Whether the lower end is above the upper one.
     pub(crate) fn are_crossed(self) -> bool
-        ensures { result ≡ is_crossed (bounds_of self) }
+        ensures { result ≡ is_crossed (interval_of self) }
     {
         match (self.lower, self.upper) {
             (Some(lower), Some(upper)) => upper < lower,
@@ -204,12 +191,12 @@ impl Draft {
         requires { (s : DeckSoFar) × Stands self.old s }
         ensures { (s : DeckSoFar) → Stands self.old s → Judged (judge_bound s fields.now) self.new result }
     {
-        let kind = BoundKind::of(fields.get(1))?;
+        let kind = kind_of(fields.get(1))?;
         let name = Name::of(alloc, fields.get(3))?;
         let Some(column) = self.deck.find_column(&name) else {
-            return Err(Refusal::UnknownColumn);
+            return Err(Refusal::Fault(LineFault::UnknownColumn));
         };
-        let value = kind.number(fields.get(4))?;
+        let value = bound_number(kind, fields.get(4))?;
         self.bounds[column] = self.bounds[column].after(kind, value);
         Ok(())
     }

@@ -7,15 +7,17 @@ ghost use Rattle.mps_cards.specs.Splitting.{text_card};
 ghost use Rattle.mps_model.specs.DeckSoFar.{DeckSoFar, no_cards, place_of};
 ghost use Rattle.mps_model.specs.Judgement.{has_finished, judge_card, judge_data, judge_section};
 ghost use Rattle.mps_model.specs.PairCards.{judge_in_set, with_set};
-ghost use Rattle.mps_reader.specs.Standing.{Judged, MayUse, Stands, is_marked, place_is, set_judge, slot_is, slot_of};
+ghost use Rattle.mps_reader.specs.Inner.Standing.{Judged, MayUse, Stands, is_marked, place_is, set_judge, slot_is, slot_of};
 
 use crate::bounds::Ends;
 use crate::pairs::Use;
 use crate::refusal::Refusal;
-use crate::section::Section;
+use crate::section::{may_begin, section_of};
 use deck_model::{Deck, Memory, Name};
 use indexmap::IndexSet;
+use lp_text::LineFault;
 use mps_cards::{Card, CardKind, Fields};
+use mps_model::Section;
 use sparse_cols::Work;
 use std::alloc::Global;
 
@@ -78,11 +80,11 @@ impl Draft {
         requires { (s : DeckSoFar) × Stands self.old s }
         ensures { (s : DeckSoFar) → Stands self.old s → Judged (judge_section s fields.now) self.new result }
     {
-        let Some(section) = Section::of(fields.get(1)) else {
-            return Err(Refusal::Section);
+        let Some(section) = section_of(fields.get(1)) else {
+            return Err(Refusal::Fault(LineFault::Section));
         };
-        if !section.may_begin(&self.begun) {
-            return Err(Refusal::Section);
+        if !may_begin(section, &self.begun) {
+            return Err(Refusal::Fault(LineFault::Section));
         }
         match section {
             Section::Title => self.deck.set_name(Name::of(alloc, fields.get(3))?),
@@ -111,7 +113,7 @@ impl Draft {
         ensures { (s : DeckSoFar) → Stands self.old s → Judged (judge_data s.begun s fields.now) self.new result }
     {
         let Some(section) = self.begun.first().copied() else {
-            return Err(Refusal::Section);
+            return Err(Refusal::Fault(LineFault::Section));
         };
         match section {
             Section::Rows => self.take_row(alloc, fields),
@@ -119,7 +121,7 @@ impl Draft {
             Section::RightSides => self.take_in_set(alloc, Some(Use::AsRight), fields),
             Section::Ranges => self.take_in_set(alloc, Some(Use::AsRange), fields),
             Section::Bounds => self.take_in_set(alloc, None, fields),
-            Section::Title | Section::Finish => Err(Refusal::Section),
+            Section::Title | Section::Finish => Err(Refusal::Fault(LineFault::Section)),
         }
     }
 

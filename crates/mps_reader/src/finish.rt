@@ -2,8 +2,8 @@
 ghost use Rattle.std.specs.Prelude.{◌≡◌, ℕ, MatchResult, IfSome, IsErrOf};
 ghost use Rattle.mps_model.specs.DeckSoFar.{DeckSoFar};
 ghost use Rattle.mps_model.specs.DeckOf.{finished, has_fault, is_deck};
-ghost use Rattle.mps_reader.specs.Refusals.{text_fault};
-ghost use Rattle.mps_reader.specs.Standing.{Stands};
+ghost use Rattle.mps_reader.specs.Faults.{text_fault};
+ghost use Rattle.mps_reader.specs.Inner.Standing.{Stands};
 
 use crate::draft::Draft;
 use crate::faults::DeckFault;

@@ -23,7 +23,7 @@
 //! No more of a line is kept than its columns, however long it is.
 //!
 //! The crate stands on `mps_cards` for lines and cards, on `number_fields` for numbers, on `deck_model` for the deck, on
-//! `mps_model` and `lp_model` for the definitions, on `sparse_cols` for the rows that a column has named, and on `io_ends`,
+//! `mps_model`, `lp_text` and `lp_model` for the definitions, on `sparse_cols` for the rows that a column has named, and on `io_ends`,
 //! `exact_frac`, `no_memory`, `indexmap` and `thiserror`.
 #![tactic(auto)]
 
@@ -36,8 +36,6 @@ mod reading;
 mod refusal;
 mod rows;
 mod section;
-#[cfg(test)]
-mod tests;
 
-pub use faults::{DeckFault, Which};
+pub use faults::DeckFault;
 pub use reading::read_deck;

@@ -1,26 +1,22 @@
 // Cards with pairs of a row's name and a number: those of the columns, of the right sides and of the ranges.
-ghost use Rattle.std.specs.Prelude.{◌≡◌, ◌<◌, ◌||◌, None, OnOk, length};
+ghost use Rattle.std.specs.Prelude.{◌≡◌, ◌<◌, ◌||◌, MatchBool, None, OnOk, length};
 ghost use Rattle.lp_model.specs.Edit.{find_column};
 ghost use Rattle.lp_text.specs.Cards.{field_of};
 ghost use Rattle.mps_model.specs.DeckSoFar.{DeckSoFar};
 ghost use Rattle.mps_model.specs.PairCards.{at_column, begin_column, has_second_pair, is_marker, judge_column, judge_pair, judge_pairs};
-ghost use Rattle.mps_reader.specs.Kinds.{use_is};
-ghost use Rattle.mps_reader.specs.Placed.{IsAmongRows, IsRoom, IsVacant, IsVacantFor, deck_after, has_room_at, has_room_for, has_room_in, with_number, with_range_at, with_right_at};
-ghost use Rattle.mps_reader.specs.Standing.{InColumns, Judged, MayUse, Stands};
+ghost use Rattle.mps_reader.specs.Inner.Uses.{use_is};
+ghost use Rattle.mps_reader.specs.Inner.Placed.{IsAmongRows, IsRoom, IsVacant, IsVacantFor, deck_after, has_room_at, has_room_for, has_room_in, with_number, with_range_at, with_right_at};
+ghost use Rattle.mps_reader.specs.Inner.Standing.{InColumns, IsLast, Judged, MayUse, Stands};
 
 use crate::bounds::Ends;
 use crate::draft::{Draft, Place};
-use crate::faults::Which;
 use crate::refusal::Refusal;
 use deck_model::{EditFault, Name};
 use exact_frac::Frac;
+use lp_text::{COLUMN_LIMIT, Counted, ENTRY_LIMIT, LineFault};
 use mps_cards::Fields;
 use number_fields::field;
 use std::alloc::Global;
-
-const COLUMNS: usize = 4_000;
-
-const ENTRIES: usize = 40_000;
 
 // What the number of a pair is used for.
 #[derive(Clone, Copy, Debug, PartialEq, Eq)]
@@ -31,14 +27,14 @@ pub(crate) enum Use {
 }
 
 impl From<EditFault> for Refusal {
-    ghost use Rattle.mps_reader.specs.Refusals.{edit_refusal};
+    ghost use Rattle.mps_reader.specs.Inner.Refusals.{edit_refusal};
 
     ghost from_gives = { λ fault refusal. refusal ≡ edit_refusal fault };
 
     fn from(fault: EditFault) -> Refusal {
         match fault {
             EditFault::Memory => Refusal::Memory,
-            EditFault::Repeated => Refusal::Repeated,
+            EditFault::Repeated => Refusal::Fault(LineFault::Repeated),
         }
     }
 }
@@ -73,7 +69,7 @@ impl Draft {
         ensures { (s : DeckSoFar) → Stands self.old s → Judged (judge_column s fields.now) self.new result }
     {
         if has_marker(fields) {
-            return Err(Refusal::Integer);
+            return Err(Refusal::Fault(LineFault::Integer));
         }
         self.at_column(alloc, fields.get(2))?;
         self.take_pairs(alloc, Use::InColumn, fields)
@@ -86,12 +82,25 @@ impl Draft {
         ensures judged { (s : DeckSoFar) → Stands self.old s → Judged (at_column s name.now) self.new result }
         ensures at { OnOk result (MayUse Use.InColumn self.new) }
     {
-        let name = Name::of(alloc, name)?;
-        match self.deck.find_column(&name) {
-            None => self.begin_column(name),
-            Some(column) if column + 1 == self.deck.columns() => Ok(()),
-            Some(_) => Err(Refusal::Scattered),
+        if self.is_last_column(name) {
+            return Ok(());
         }
+        let name = Name::of(alloc, name)?;
+        if self.deck.find_column(&name).is_some() {
+            return Err(Refusal::Fault(LineFault::Scattered));
+        }
+        self.begin_column(name)
+    }
+
+    // Whether the last column has this name.
+    fn is_last_column(&self, name: &[u8]) -> bool
+        ensures { MatchBool result (IsLast self.now.deck name.now) (¬ IsLast self.now.deck name.now) }
+    {
+        let columns = self.deck.columns();
+        if columns == 0 {
+            return false;
+        }
+        self.deck.column_name(columns - 1).bytes() == name
     }
 
     // Adds a column.
@@ -102,8 +111,8 @@ impl Draft {
         ensures judged { (s : DeckSoFar) → Stands self.old s → Judged (begin_column s name) self.new result }
         ensures at { OnOk result (MayUse Use.InColumn self.new) }
     {
-        if self.deck.columns() >= COLUMNS {
-            return Err(Refusal::Limit(Which::Columns));
+        if self.deck.columns() >= COLUMN_LIMIT {
+            return Err(Refusal::Fault(LineFault::Limit(Counted::Columns)));
         }
         self.bounds.push(Ends::NONNEGATIVE)?;
         self.deck.add_column(name)?;
@@ -144,13 +153,13 @@ impl Draft {
     {
         let name = Name::of(alloc, name)?;
         let Some(place) = self.place(&name) else {
-            return Err(Refusal::UnknownRow);
+            return Err(Refusal::Fault(LineFault::UnknownRow));
         };
         if self.is_named(place) {
-            return Err(Refusal::Repeated);
+            return Err(Refusal::Fault(LineFault::Repeated));
         }
         let Ok(value) = field(text) else {
-            return Err(Refusal::Number);
+            return Err(Refusal::Fault(LineFault::Number));
         };
         let slot = self.slot(place);
         self.use_number(how, place, value)?;
@@ -208,8 +217,8 @@ impl Draft {
         if value.is_zero() {
             return Ok(());
         }
-        if self.deck.entries() >= ENTRIES {
-            return Err(Refusal::Limit(Which::Entries));
+        if self.deck.entries() >= ENTRY_LIMIT {
+            return Err(Refusal::Fault(LineFault::Limit(Counted::Entries)));
         }
         Ok(())
     }

@@ -3,45 +3,47 @@ ghost use Rattle.std.specs.Prelude.{◌≡◌, ◌≤◌, IfOk, IfErr, IfSome, I
 ghost use Rattle.std.specs.Option.{option_map};
 ghost use Rattle.std.specs.Io.KnownBytes.{prepend_known};
 ghost use Rattle.io_ends.specs.Count.{Rose};
-ghost use Rattle.mps_cards.specs.Reading.{AnswersLine, TakesAsNeeded, lines_left};
+ghost use Rattle.mps_cards.specs.NextLine.{AnswersLine, TakesAsNeeded, lines_left};
+ghost use Rattle.lp_text.specs.Limits.{byte_limit};
 ghost use Rattle.lp_text.specs.Lines.{Line as TextLine};
 ghost use Rattle.mps_model.specs.DeckOf.{IsDeckOf};
 ghost use Rattle.mps_model.specs.DeckSoFar.{DeckSoFar};
 ghost use Rattle.mps_model.specs.Judgement.{judge_columns};
 ghost use Rattle.mps_reader.specs.Answers.{IsFaultOf, IsFresh, IsReadAsNeeded, IsReadFault, StandsAfter};
-ghost use Rattle.mps_reader.specs.Reached.{HasColumnsOf, IsLineCause, TakesLine};
-ghost use Rattle.mps_reader.specs.Standing.{Stands};
+ghost use Rattle.mps_reader.specs.Inner.Reached.{HasColumnsOf, IsLineCause, TakesLine};
+ghost use Rattle.mps_reader.specs.Inner.Standing.{Stands};
 
 use crate::draft::Draft;
-use crate::faults::{DeckFault, Which};
+use crate::faults::DeckFault;
 use deck_model::Deck;
 use io_ends::Source;
-use mps_cards::{CardFault, Line, LineFault, LineReader, split};
+use lp_text::{BYTE_LIMIT, Counted, LineFault};
+use mps_cards::{CardFault, Line, LineReader, ReadFault, split};
 use std::alloc::Global;
 
 // How many columns of a line are kept.
 const COLUMNS: usize = 61;
 
-// How many bytes a deck may have.
-const BYTES: u64 = 4_194_304;
-
 // The next line of the input.
 fn next_line<S: Source>(lines: &mut LineReader, source: &mut S) -> Result<Line, DeckFault>
     requires { lines.old.fault ≡ None }
-    ensures line { IfOk result (AnswersLine lines.old lines.new (S.remaining source.old) (S.remaining source.new) 61 4194304) }
+    ensures line { IfOk result (AnswersLine lines.old lines.new (S.remaining source.old) (S.remaining source.new) 61 byte_limit) }
     ensures fault { IfErr result (IsLineCause lines.old (S.remaining source.old) (S.remaining source.new) (S.fault_count source.old) (S.fault_count source.new)) }
     ensures after { IfErr result (λ fault. StandsAfter fault lines.new) }
     ensures unmoved { OnErr result (lines.new.fault ≡ None → (lines.new ≡ lines.old) × (S.remaining source.new ≡ S.remaining source.old)) }
-    ensures needed { TakesAsNeeded lines.old.kept lines.old.since 4194304 (S.remaining source.old) (S.remaining source.new) }
+    ensures needed { TakesAsNeeded lines.old.kept lines.old.since byte_limit (S.remaining source.old) (S.remaining source.new) }
     ensures stays { ¬ IsErrOf result DeckFault.Read → S.fault_count source.new ≡ S.fault_count source.old }
     ensures never_falls { S.fault_count source.old ≤ S.fault_count source.new }
 {
-    match lines.line(source, COLUMNS, BYTES) {
+    match lines.line(source, COLUMNS, BYTE_LIMIT) {
         Ok(Some(line)) => Ok(line),
         Ok(None) => Err(DeckFault::NoEnd(lines.lines())),
-        Err(LineFault::Memory) => Err(DeckFault::Memory),
-        Err(LineFault::Read) => Err(DeckFault::Read),
-        Err(LineFault::TooMany(line)) => Err(DeckFault::Limit(Which::Bytes, line)),
+        Err(ReadFault::Memory) => Err(DeckFault::Memory),
+        Err(ReadFault::Read) => Err(DeckFault::Read),
+        Err(ReadFault::TooMany(line)) => Err(DeckFault::InLine(
+            line,
+            LineFault::Limit(Counted::Bytes),
+        )),
     }
 }
 
@@ -57,8 +59,7 @@ fn take_line(alloc: Global, draft: &mut Draft, line: &Line) -> Result<(), DeckFa
         Ok(Some(card)) => card,
         Ok(None) => return Ok(()),
         Err(CardFault::Memory) => return Err(DeckFault::Memory),
-        Err(CardFault::NotAscii(line)) => return Err(DeckFault::NotAscii(line)),
-        Err(CardFault::Columns(line, column)) => return Err(DeckFault::Columns(line, column)),
+        Err(CardFault::InLine(line, fault)) => return Err(DeckFault::InLine(line, fault)),
     };
     match draft.take(alloc, &card) {
         Ok(()) => Ok(()),
@@ -79,7 +80,7 @@ fn take_line(alloc: Global, draft: &mut Draft, line: &Line) -> Result<(), DeckFa
 ///
 /// After a fault of a card the reader stands behind its line, and has answered no line after it; after `NoEnd` it stands at the
 /// end of the text; after `NoObjective` and `CrossedBounds` it has given no fault (`StandsAfter`). Wherever the reader has given
-/// no fault, what is left to read are the lines behind those that it has answered (`rest`). After `Read`, and after `Limit` of
+/// no fault, what is left to read are the lines behind those that it has answered (`rest`). After `Read`, and after the limit of
 /// bytes, it gives that fault again. After `Memory` it may have given that fault or none.
 pub fn read_deck<S: Source>(
     alloc: Global,

@@ -1,25 +1,17 @@
 // Why a card is refused.
 ghost use Rattle.std.specs.Prelude.{◌≡◌};
-ghost use Rattle.mps_reader.specs.Refusals.{at_line};
+ghost use Rattle.mps_reader.specs.Inner.Refusals.{at_line};
 
-use crate::faults::{DeckFault, Which};
+use crate::faults::DeckFault;
 use deck_model::Memory;
+use lp_text::LineFault;
 use std::alloc::{AllocError, AllocFailed};
 
 // Why a card is refused: memory ran out, or its first fault after the cards before it.
 #[derive(Clone, Copy, Debug, PartialEq, Eq)]
 pub(crate) enum Refusal {
     Memory,
-    Section,
-    RowType,
-    UnknownRow,
-    UnknownColumn,
-    Repeated,
-    Scattered,
-    Number,
-    Bound,
-    Integer,
-    Limit(Which),
+    Fault(LineFault),
 }
 
 impl Refusal {
@@ -29,16 +21,7 @@ impl Refusal {
     {
         match self {
             Refusal::Memory => DeckFault::Memory,
-            Refusal::Section => DeckFault::Section(line),
-            Refusal::RowType => DeckFault::RowType(line),
-            Refusal::UnknownRow => DeckFault::UnknownRow(line),
-            Refusal::UnknownColumn => DeckFault::UnknownColumn(line),
-            Refusal::Repeated => DeckFault::Repeated(line),
-            Refusal::Scattered => DeckFault::Scattered(line),
-            Refusal::Number => DeckFault::Number(line),
-            Refusal::Bound => DeckFault::Bound(line),
-            Refusal::Integer => DeckFault::Integer(line),
-            Refusal::Limit(which) => DeckFault::Limit(which, line),
+            Refusal::Fault(fault) => DeckFault::InLine(line, fault),
         }
     }
 }

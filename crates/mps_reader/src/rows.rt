@@ -1,40 +1,29 @@
 // Cards of the rows.
 ghost use Rattle.std.specs.Prelude.{◌≡◌, ◌≤◌, None, length};
-ghost use Rattle.std.specs.Option.{option_map};
 ghost use Rattle.lp_text.specs.Cards.{field_of};
 ghost use Rattle.mps_model.specs.DeckSoFar.{DeckSoFar, place_of};
-ghost use Rattle.mps_model.specs.RowCards.{free, judge_row, kept, row_type_of, with_row_of};
-ghost use Rattle.mps_reader.specs.Kinds.{row_type_is};
-ghost use Rattle.mps_reader.specs.Standing.{InRows, Judged, Stands};
+ghost use Rattle.mps_model.specs.declared.RowType.TheVariants.{Free, Kept};
+ghost use Rattle.mps_model.specs.RowCards.{judge_row, row_type_of, with_row_of};
+ghost use Rattle.mps_reader.specs.Inner.Standing.{InRows, Judged, Stands};
 
 use crate::draft::Draft;
-use crate::faults::Which;
 use crate::refusal::Refusal;
 use deck_model::{Name, RowKind};
+use lp_text::{Counted, LineFault, ROW_LIMIT};
 use mps_cards::Fields;
+use mps_model::RowType;
 use std::alloc::Global;
 
-const ROWS: usize = 400;
-
-// The type of a row: free, or a kind of row that the deck keeps.
-#[derive(Clone, Copy, Debug, PartialEq, Eq)]
-enum RowType {
-    Free,
-    Kept(RowKind),
-}
-
-impl RowType {
-    // The type of a word.
-    fn of(word: &[u8]) -> Option<RowType>
-        ensures { option_map row_type_is result ≡ row_type_of word.now }
-    {
-        match word {
-            b"N" => Some(RowType::Free),
-            b"L" => Some(RowType::Kept(RowKind::L)),
-            b"G" => Some(RowType::Kept(RowKind::G)),
-            b"E" => Some(RowType::Kept(RowKind::E)),
-            _ => None,
-        }
+// The type of a word.
+fn row_type_of(word: &[u8]) -> Option<RowType>
+    ensures { result ≡ row_type_of word.now }
+{
+    match word {
+        b"N" => Some(RowType::Free),
+        b"L" => Some(RowType::Kept(RowKind::L)),
+        b"G" => Some(RowType::Kept(RowKind::G)),
+        b"E" => Some(RowType::Kept(RowKind::E)),
+        _ => None,
     }
 }
 
@@ -46,12 +35,12 @@ impl Draft {
         requires short { length (field_of fields.now 2) ≤ 8 }
         ensures { (s : DeckSoFar) → Stands self.old s → Judged (judge_row s fields.now) self.new result }
     {
-        let Some(kind) = RowType::of(fields.get(1)) else {
-            return Err(Refusal::RowType);
+        let Some(kind) = row_type_of(fields.get(1)) else {
+            return Err(Refusal::Fault(LineFault::RowType));
         };
         let name = Name::of(alloc, fields.get(2))?;
         if self.place(&name).is_some() {
-            return Err(Refusal::Repeated);
+            return Err(Refusal::Fault(LineFault::Repeated));
         }
         match kind {
             RowType::Free => self.add_free_row(alloc, name),
@@ -63,7 +52,7 @@ impl Draft {
     fn add_free_row(&mut self, alloc: Global, name: Name) -> Result<(), Refusal>
         requires stands { (s : DeckSoFar) × Stands self.old s × (place_of s name ≡ None) }
         requires rows { InRows self.old }
-        ensures { (s : DeckSoFar) → Stands self.old s → place_of s name ≡ None → Judged (with_row_of s name free) self.new result }
+        ensures { (s : DeckSoFar) → Stands self.old s → place_of s name ≡ None → Judged (with_row_of s name Free) self.new result }
     {
         if self.free_rows.is_empty() {
             self.deck.set_objective(Name::of(alloc, name.bytes())?);
@@ -77,10 +66,10 @@ impl Draft {
         requires stands { (s : DeckSoFar) × Stands self.old s × (place_of s name ≡ None) }
         requires rows { InRows self.old }
         requires short { length name ≤ 8 }
-        ensures { (s : DeckSoFar) → Stands self.old s → place_of s name ≡ None → Judged (with_row_of s name (kept kind)) self.new result }
+        ensures { (s : DeckSoFar) → Stands self.old s → place_of s name ≡ None → Judged (with_row_of s name (Kept kind)) self.new result }
     {
-        if self.deck.rows() >= ROWS {
-            return Err(Refusal::Limit(Which::Rows));
+        if self.deck.rows() >= ROW_LIMIT {
+            return Err(Refusal::Fault(LineFault::Limit(Counted::Rows)));
         }
         self.deck.add_row(name, kind)?;
         Ok(())

@@ -24,16 +24,3 @@ impl<T: Drop> From<AllocFailed<T>> for Memory {
         Memory
     }
 }
-
-#[cfg(test)]
-mod tests {
-    use super::*;
-    use std::test::Fail;
-
-    #[test]
-    fn prints_what_was_refused(rt: HostRuntime) -> Result<(), Fail> {
-        let text = format!(in rt.alloc(); "{}", Memory::from(AllocError))?;
-        assert_eq!(rt; text.as_str(), "out of memory");
-        Ok(())
-    }
-}

@@ -1,12 +1,16 @@
 -- A whole number and a fraction below 1, as one fraction.
 use Rattle.std.proofs.Common.{◌≡◌, ℕ, zero, suc, ◌+◌, ◌-◌, ◌*◌, ◌/◌, ◌%◌, ◌^◌, ◌<◌, ◌≤◌, pos, ◌*ℤ◌, nat_abs, Bool, true, false, Option, None, Some, MatchOption, lit<, refl, sym, ◌∙◌, ap, subst, arith, pow-add}
-use Rattle.std.proofs.Math.Nat.{mul_assoc, le_of_mul-le-mul_right, le-div_iff_mul-le, div-add-mod, div-one, mod-one, mod-mod_of_dvd, dvd-mul_right, eq_of_mul-eq-mul_right, mul-add-mod_self_right, le-mul_of_pos_right}
+use Rattle.std.specs.Int.{◌∣◌}
+use Rattle.std.proofs.Math.Nat.{dvd-mul_left, le_of_dvd, pow-le-pow_right, mul_assoc, le_of_mul-le-mul_right, le-div_iff_mul-le, div-add-mod, div-one, mod-one, mod-mod_of_dvd, dvd-mul_right, eq_of_mul-eq-mul_right, mul-add-mod_self_right, le-mul_of_pos_right}
 use Rattle.std.proofs.lemmas.Bool.{lt-ltb, ltb-true, and_from}
 use Rattle.rational.specs.Gcd.{gcd, IsCoprime}
-use Rattle.rational.specs.Integer.{nat_abs-*ℤ}
-use Rattle.rational.specs.Rational.{ℚ, ratio, ratio-cross, ratio-cong, positive, fits_width, ◌*ℚ◌}
-use Rattle.rational.specs.RationalRing.Parts.{IsOver, over_ratio, over-whole, over-*, equal_over}
-use Rattle.rational.specs.Ring.{ring_ℤ, of_pos, ◌≐◌, ◌⊙◌≗◌⟹◌, ◌⊕◌, ◌⊗◌, ⊝◌, literal}
+use Rattle.rational.proofs.Gcd.{dvd_of_coprime, gcd-comm}
+use Rattle.rational.proofs.Integer.{nat_abs-*ℤ}
+use Rattle.rational.specs.Rational.{ℚ, ratio, ◌*ℚ◌}
+use Rattle.rational.proofs.Ratio.{coprime_from_lowest, ratio-cross, ratio-cong, positive}
+use Rattle.rational.specs.Width.{fits_width}
+use Rattle.rational.proofs.RationalRing.Parts.{IsOver, over_ratio, over-whole, over-*, equal_over}
+use Rattle.rational.proofs.Ring.{ring_ℤ, of_pos, ◌≐◌, ◌⊙◌≗◌⟹◌, ◌⊕◌, ◌⊗◌, ⊝◌, literal}
 use Rattle.exact_frac.proofs.Euclid.{gcd-rest}
 use Rattle.exact_frac.proofs.Lowest.{numerator-over, denominator-over, signed-*ℤ}
 use Rattle.exact_frac.proofs.Split.{nat_abs-signed}
@@ -97,6 +101,23 @@ module _ (negative : Bool) (a q : ℕ) (some : 0 < q) where
       large b p d some_d e h =
           let more : a ≤ a * d = le-mul_of_pos_right a some_d in
           le_of_mul-le-mul_right {m = b} {n = p} {k = q} (omega arith) some
+
+  denominator_within : value.denominator ≤ q
+  denominator_within = le_of_dvd some (dvd_of_coprime value.denominator (nat_abs value.numerator) q
+      (gcd-comm value.denominator (nat_abs value.numerator) ∙ coprime_from_lowest value.numerator value.denominator value.lowest)
+      (subst (λ n. value.denominator ∣ n) (sym sizes) (dvd-mul_left value.denominator a)))
+
+  numerator_within : nat_abs value.numerator ≤ a
+  numerator_within = within (nat_abs value.numerator) value.denominator sizes denominator_within
+    where
+      within : (n d : ℕ) → n * q ≡ a * d → d ≤ q → n ≤ a
+      within n d e h =
+          let more : a * d ≤ a * q = grind arith in
+          le_of_mul-le-mul_right {m = n} {n = a} {k = q} (omega arith) some
+
+  -- a value of small parts fits
+  pub small_fits : a < 2 ^ 127 → q < 2 ^ 127 → fits_width 127 value ≡ true
+  small_fits h k = fitting value (omega (arith, numerator_within)) (omega (arith, denominator_within))
 
   pub too_fine_value : IsTooFine (a % q) q → fits_width 127 value ≡ false
   too_fine_value fine =
@@ -190,6 +211,16 @@ module _ (negative : Bool) (d places zeros : ℕ) (way : 0 < zeros → places �
   shifted_fitting number n m o number_is part proper h =
       joined_fitting negative (d * 10 ^ zeros) (10 ^ places) (ten_pos places) n m proper (part ∙ ap (λ r. r * m) (zeros_last d places zeros way)) o
       (subst (λ w. MatchOption o (2 ^ 127 ≤ w * m + n) (λ r. (r ≡ ratio (signed negative (w * m + n)) m) × (w * m + n < 2 ^ 127))) (number_is ∙ zeros_whole d places zeros way) h)
+
+-- few digits over ten for each of a few places, with no zeros after them
+pub short_fitting : (negative : Bool) (d places zeros : ℕ) (r : ℚ) → zeros ≡ 0 → d < 10 ^ 18 → places ≤ 18 → r ≡ ratio (signed negative d) (10 ^ places) → Fitting (ratio (signed negative (d * 10 ^ zeros)) (10 ^ places)) (Some r)
+short_fitting negative d places zeros r none small few is =
+    let same : d ≡ d * 10 ^ zeros = rw none (by_one d) in
+    let below : 10 ^ places ≤ 10 ^ 18 = pow-le-pow_right (lit< tt) few in
+    subst (λ n. Fitting (ratio (signed negative n) (10 ^ places)) (Some r)) same (is, small_fits negative d (10 ^ places) (ten_pos places) (omega arith) (omega arith))
+  where
+    by_one : (n : ℕ) → n ≡ n * 10 ^ 0
+    by_one n = omega arith
 
 -- ---- the exponent
 

@@ -4,12 +4,12 @@ use Rattle.std.specs.Prelude.{fold}
 use Rattle.std.specs.List.{list_all}
 use Rattle.std.proofs.Math.Nat.{pow-suc, one-le-pow, pow-le-pow_right, div-div-eq-div-mul, div-add-mod, div-le_self, div-eq_of_lt, mod-lt, mod-eq_of_lt, mul-add-div_right, mul-add-mod_self_right, div-lt_iff_lt-mul, le-div_iff_mul-le}
 use Rattle.std.proofs.Math.ListN.{get_or-append}
-use Rattle.std.proofs.lemmas.Bool.{leb-true, and_parts}
-use Rattle.std.proofs.lemmas.List.{take_more, get_or-append-add}
+use Rattle.std.proofs.lemmas.Bool.{leb-true, and_from, and_parts}
+use Rattle.std.proofs.lemmas.List.{length-take-le, take_more, get_or-append-add}
+use Rattle.std.proofs.lemmas.List.Folds.{list_all-append}
 use Rattle.std.proofs.lemmas.List.Sums.{fold-append}
-use Rattle.lp_text.specs.PlainCards.{digits_value, is_digit}
-use Rattle.mps_model.proofs.SameFields.{list_all-both, list_all-parts}
-use Rattle.rational.specs.Ring.{ring_ℤ, of_pos, ◌≐◌, ◌⊕◌, ◌⊗◌, 𝟘, literal}
+use Rattle.lp_text.specs.Digits.{digits_value, is_digit}
+use Rattle.rational.proofs.Ring.{ring_ℤ, of_pos, ◌≐◌, ◌⊕◌, ◌⊗◌, 𝟘, literal}
 
 pub ten_pos : (k : ℕ) → 0 < 10 ^ k
 ten_pos k = omega (arith, one-le-pow k 10 (lit< tt))
@@ -19,6 +19,14 @@ tens k = pow-suc 10 k
 
 pub tens_more : (k : ℕ) → 10 ^ (k + 1) ≡ 10 ^ k * 10
 tens_more k = pow-add 10 k 1
+
+-- ---- texts of digits alone
+
+all_both : (a b : List ℕ) → list_all is_digit a ≡ true → list_all is_digit b ≡ true → list_all is_digit (a ++ b) ≡ true
+all_both a b e f = list_all-append is_digit a b ∙ and_from (list_all is_digit a) (list_all is_digit b) e f
+
+all_parts : (a b : List ℕ) → list_all is_digit (a ++ b) ≡ true → (list_all is_digit a ≡ true) × (list_all is_digit b ≡ true)
+all_parts a b e = and_parts (list_all is_digit a) (list_all is_digit b) (sym (list_all-append is_digit a b) ∙ e)
 
 -- ---- the value of digits
 
@@ -56,6 +64,25 @@ value_below (c ∷ ds) t =
     at_most : (d p : ℕ) → d ≤ 9 → d * p ≤ 9 * p
     at_most d p h = grind arith
 
+-- few digits spell a small number
+pub short_below : (ds : List ℕ) (k : ℕ) → list_all is_digit ds ≡ true → length ds ≤ k → digits_value ds < 10 ^ k
+short_below ds k all few =
+    let most : 10 ^ length ds ≤ 10 ^ k = pow-le-pow_right (lit< tt) few in
+    omega (arith, value_below ds all)
+
+-- so do the digits before the last of a few
+pub short_whole : (a b : List ℕ) (i : ℕ) → list_all is_digit a ≡ true → i < length a → length a + length b ≤ 18 → digits_value (take i a) < 10 ^ 17
+short_whole a b i all h few =
+    short_below (take i a) 17 (all_parts (take i a) (drop i a) (ap (list_all is_digit) (take-append-drop i a) ∙ all)).0 (omega (arith, length-take-le i a (omega arith)))
+
+pub short_decimals : (a b : List ℕ) (i : ℕ) → list_all is_digit a ≡ true → list_all is_digit b ≡ true → i < length b → length a + length b ≤ 18 → digits_value (a ++ take i b) < 10 ^ 17
+short_decimals a b i s t h few =
+    short_below (a ++ take i b) 17 (all_both a (take i b) s (all_parts (take i b) (drop i b) (ap (list_all is_digit) (take-append-drop i b) ∙ t)).0)
+    (omega (arith, length-append a (take i b), length-take-le i b (omega arith)))
+
+pub short_all : (a b : List ℕ) → list_all is_digit a ≡ true → list_all is_digit b ≡ true → length a + length b ≤ 18 → digits_value (a ++ b) < 10 ^ 18
+short_all a b s t few = short_below (a ++ b) 18 (all_both a b s t) (omega (arith, length-append a b))
+
 -- ---- the digit at a place
 
 digit_alone : (c : ℕ) → digits_value (c ∷ []) ≡ c - 48
@@ -74,7 +101,7 @@ front_value a b t =
     no_more n = omega arith
 
 at_all : (a : List ℕ) (c : ℕ) (b : List ℕ) → list_all is_digit ((a ++ c ∷ []) ++ b) ≡ true → c - 48 ≤ 9
-at_all a c b t = digit_below c (and_parts _ _ (list_all-parts is_digit a (c ∷ []) (list_all-parts is_digit (a ++ c ∷ []) b t).0).1).0
+at_all a c b t = digit_below c (and_parts _ _ (all_parts a (c ∷ []) (all_parts (a ++ c ∷ []) b t).0).1).0
 
 pub digit_at : (ds : List ℕ) (i place d : ℕ) → list_all is_digit ds ≡ true → place + (i + 1) ≡ length ds → get_or ds i d - 48 ≡ digits_value ds / 10 ^ place % 10
 digit_at ds i place d t e =
@@ -87,7 +114,7 @@ digit_at ds i place d t e =
     let long : length b ≡ place = length-drop (i + 1) ds ∙ omega arith in
     sym (ap (λ (l : List ℕ). digits_value l / 10 ^ place % 10) (sym split)
     ∙ ap (λ k. digits_value ((a ++ c ∷ []) ++ b) / 10 ^ k % 10) (sym long)
-    ∙ ap (λ n. n % 10) (front_value (a ++ c ∷ []) b (list_all-parts is_digit (a ++ c ∷ []) b all).1)
+    ∙ ap (λ n. n % 10) (front_value (a ++ c ∷ []) b (all_parts (a ++ c ∷ []) b all).1)
     ∙ last_digit a c (at_all a c b all))
 
 -- a digit after the point, and one before it
@@ -95,18 +122,18 @@ pub decimal_at : (a b : List ℕ) (place d : ℕ) → list_all is_digit a ≡ tr
 decimal_at a b place d s t h =
     let long : length (a ++ b) ≡ length a + length b = length-append a b in
     ap (λ n. n - 48) (sym (get_or-append-add a b (length b - 1 - place) d))
-    ∙ digit_at (a ++ b) (length a + (length b - 1 - place)) place d (list_all-both is_digit a b s t) (omega arith)
+    ∙ digit_at (a ++ b) (length a + (length b - 1 - place)) place d (all_both a b s t) (omega arith)
 
 pub whole_at : (a b : List ℕ) (place d : ℕ) → list_all is_digit a ≡ true → list_all is_digit b ≡ true → length b ≤ place → place - length b < length a → get_or a (length a - 1 - (place - length b)) d - 48 ≡ digits_value (a ++ b) / 10 ^ place % 10
 whole_at a b place d s t h k =
     let long : length (a ++ b) ≡ length a + length b = length-append a b in
     ap (λ n. n - 48) (sym (get_or-append a b d (length a - 1 - (place - length b)) (omega arith)))
-    ∙ digit_at (a ++ b) (length a - 1 - (place - length b)) place d (list_all-both is_digit a b s t) (omega arith)
+    ∙ digit_at (a ++ b) (length a - 1 - (place - length b)) place d (all_both a b s t) (omega arith)
 
 pub past_first : (a b : List ℕ) (place : ℕ) → list_all is_digit a ≡ true → list_all is_digit b ≡ true → length a + length b ≤ place → digits_value (a ++ b) / 10 ^ place ≡ 0
 past_first a b place s t h =
     let long : length (a ++ b) ≡ length a + length b = length-append a b in
-    let under : digits_value (a ++ b) < 10 ^ length (a ++ b) = value_below (a ++ b) (list_all-both is_digit a b s t) in
+    let under : digits_value (a ++ b) < 10 ^ length (a ++ b) = value_below (a ++ b) (all_both a b s t) in
     let more : 10 ^ length (a ++ b) ≤ 10 ^ place = pow-le-pow_right (lit< tt) (omega arith) in
     div-eq_of_lt (omega arith)
 

@@ -5,10 +5,13 @@ use Rattle.std.specs.List.{list_all}
 use Rattle.std.proofs.lemmas.Bool.{lt-ltb, ltb-true, and_from}
 use Rattle.std.proofs.lemmas.List.{take_more}
 use Rattle.std.proofs.lemmas.List.Sums.{take_while-cons, fold-append}
-use Rattle.lp_text.specs.PlainCards.{digits_value, is_digit}
-use Rattle.rational.specs.Rational.{ℚ, ratio, fits_width, ◌*ℚ◌}
+use Rattle.lp_text.specs.Digits.{digits_value, is_digit}
+use Rattle.rational.specs.Rational.{ℚ, ratio, ◌*ℚ◌}
+use Rattle.rational.specs.Width.{fits_width}
 use Rattle.exact_frac.proofs.Split.{nat_abs-signed}
-use Rattle.mps_model.specs.NumberField.{FieldFault, malformed, exponent, unfit, leading_digits, decimals, after_digits, after_point, all_digits, unsigned, after_decimals, exponent_of, field_value, fitting, spelled_value, signed, is_negative, power_of_ten}
+use Rattle.mps_model.specs.declared.FieldFault.{FieldFault}
+use Rattle.mps_model.specs.declared.FieldFault.TheVariants.{Exponent, Malformed, Unfit}
+use Rattle.mps_model.specs.NumberField.{leading_digits, decimals, after_digits, after_point, all_digits, unsigned, after_decimals, exponent_of, field_value, fitting, spelled_value, signed, is_negative, power_of_ten}
 use Rattle.number_fields.specs.Spelled.{exponent_within}
 
 -- ---- digits
@@ -58,18 +61,18 @@ stops_after text i d h = stops (digits_value (take i text)) (get_or text i d - 4
 -- ---- the exponent
 
 abbrev within : ℤ → Result ℤ FieldFault
-within z = if nat_lt 30 (nat_abs z) then Err exponent else Ok z
+within z = if nat_lt 30 (nat_abs z) then Err Exponent else Ok z
 
 pub exponent_small : (negative : Bool) (n size : ℕ) → size ≡ min n 31 → size ≤ 30 → within (signed negative n) ≡ Ok (signed negative size)
 exponent_small negative n size e h =
     let same : size ≡ n = omega arith in
     rw (nat_abs-signed negative n) (each (nat_lt 30 n) refl ∙ ap (λ k. Ok (signed negative k)) (sym same))
   where
-    each : (b : Bool) → nat_lt 30 n ≡ b → (if b then Err exponent else Ok (signed negative n)) ≡ Ok (signed negative n)
+    each : (b : Bool) → nat_lt 30 n ≡ b → (if b then Err Exponent else Ok (signed negative n)) ≡ Ok (signed negative n)
     each true t = let big : 30 < n = ltb-true 30 n t in absurd (omega arith)
     each false t = refl
 
-pub exponent_large : (negative : Bool) (n size : ℕ) → size ≡ min n 31 → 30 < size → within (signed negative n) ≡ Err exponent
+pub exponent_large : (negative : Bool) (n size : ℕ) → size ≡ min n 31 → 30 < size → within (signed negative n) ≡ Err Exponent
 exponent_large negative n size e h =
     let big : 30 < n = omega arith in
     rw (nat_abs-signed negative n, lt-ltb 30 n big) refl
@@ -77,12 +80,12 @@ exponent_large negative n size e h =
 -- ---- the value, or the first fault
 
 abbrev read : Option ℤ → ℕ → (ℤ → Result ℚ FieldFault) → Result ℚ FieldFault
-read o n w = elim o [ None ↦ Err malformed | Some e ↦ if nat_lt 0 n then (if nat_lt 30 (nat_abs e) then Err exponent else w e) else Err malformed ]
+read o n w = elim o [ None ↦ Err Malformed | Some e ↦ if nat_lt 0 n then (if nat_lt 30 (nat_abs e) then Err Exponent else w e) else Err Malformed ]
 
 abbrev judged : Option ℤ → Result ℤ FieldFault
-judged o = elim o [ None ↦ Err malformed | Some e ↦ within e ]
+judged o = elim o [ None ↦ Err Malformed | Some e ↦ within e ]
 
-nothing : (o : Option ℤ) (n : ℕ) (w : ℤ → Result ℚ FieldFault) → n ≡ 0 → read o n w ≡ Err malformed
+nothing : (o : Option ℤ) (n : ℕ) (w : ℤ → Result ℚ FieldFault) → n ≡ 0 → read o n w ≡ Err Malformed
 nothing None n w e = refl
 nothing (Some z) n w e = rw e refl
 
@@ -90,7 +93,7 @@ faulty : (o : Option ℤ) (n : ℕ) (w : ℤ → Result ℚ FieldFault) (f : Fie
 faulty None n w f some e = cc
 faulty (Some z) n w f some e = rw (lt-ltb 0 n some) (each (nat_lt 30 (nat_abs z)) e)
   where
-    each : (b : Bool) → (if b then Err exponent else Ok z) ≡ Err f → (if b then Err exponent else w z) ≡ Err f
+    each : (b : Bool) → (if b then Err Exponent else Ok z) ≡ Err f → (if b then Err Exponent else w z) ≡ Err f
     each true h = cc
     each false h = cc
 
@@ -98,7 +101,7 @@ valued : (o : Option ℤ) (n : ℕ) (w : ℤ → Result ℚ FieldFault) (z : ℤ
 valued None n w z some e = cc
 valued (Some y) n w z some e = rw (lt-ltb 0 n some) (each (nat_lt 30 (nat_abs y)) e)
   where
-    each : (b : Bool) → (if b then Err exponent else Ok y) ≡ Ok z → (if b then Err exponent else w y) ≡ w z
+    each : (b : Bool) → (if b then Err Exponent else Ok y) ≡ Ok z → (if b then Err Exponent else w y) ≡ w z
     each true h = cc
     each false h = let same : y ≡ z = cc in ap w same
 
@@ -109,7 +112,7 @@ module _ (text : List ℕ) where
   count : length (all_digits body) ≡ length (leading_digits body) + length (decimals body)
   count = length-append (leading_digits body) (decimals body)
 
-  pub field_nothing : length (leading_digits body) ≡ 0 → length (decimals body) ≡ 0 → field_value text ≡ Err malformed
+  pub field_nothing : length (leading_digits body) ≡ 0 → length (decimals body) ≡ 0 → field_value text ≡ Err Malformed
   field_nothing e f = nothing (exponent_of (after_decimals body)) (length (all_digits body)) (λ z. fitting (spelled_value text z)) (count ∙ omega arith)
 
   pub field_fault : (f : FieldFault) → 0 < length (leading_digits body) + length (decimals body) → exponent_within (after_decimals body) ≡ Err f → field_value text ≡ Err f
@@ -158,7 +161,7 @@ module _ (text body whole decs rest : List ℕ) (body_is : body ≡ unsigned tex
     read_is : field_value text ≡ fitting value
     read_is = field_fits text z some_here (rest_here ∙ within_is) ∙ ap (λ v. fitting v) (sym value_is)
 
-    pub read_unfit : fits_width 127 value ≡ false → field_value text ≡ Err unfit
+    pub read_unfit : fits_width 127 value ≡ false → field_value text ≡ Err Unfit
     read_unfit e = read_is ∙ rw e refl
 
     pub read_value : (r : ℚ) → (r ≡ value) × (fits_width 127 value ≡ true) → field_value text ≡ Ok r

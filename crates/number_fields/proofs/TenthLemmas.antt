@@ -5,9 +5,9 @@ use Rattle.std.specs.Int.{◌∣◌}
 use Rattle.std.proofs.Math.Nat.{mul_comm, mul_assoc, mod-lt, div-add-mod, mul-div_cancel', mul-add-mod_self_left, mul-add-mod_self_right, dvd-mul_left, le_of_dvd, div-lt_iff_lt-mul, le-div_iff_mul-le, eq_of_mul-eq-mul_left, lt_of_mul-lt-mul_left, pos_of_dvd_of_pos}
 use Rattle.std.proofs.lemmas.Bool.{ne_eqb, eq-eqb}
 use Rattle.std.proofs.lemmas.Nat.Gcd.{dvd_refl}
-use Rattle.rational.specs.Gcd.{gcd, gcd_within, IsCoprime, IsGcd-gcd, gcd_pos, dvd_of_coprime, coprime_after}
-use Rattle.rational.specs.Ring.{ring_ℤ, of_pos, ◌≐◌, ◌⊕◌, ◌⊗◌, literal}
-use Rattle.exact_frac.proofs.Coprime.{coprime_comm, coprime_of_dvd, coprime-mul}
+use Rattle.rational.specs.Gcd.{gcd, gcd_within, IsCoprime}
+use Rattle.rational.proofs.Gcd.{IsGcd-gcd, gcd_pos, dvd_of_coprime, coprime_after, coprime_comm, coprime_of_dvd, coprime-mul}
+use Rattle.rational.proofs.Ring.{ring_ℤ, of_pos, ◌≐◌, ◌⊕◌, ◌⊗◌, literal}
 use Rattle.exact_frac.proofs.Euclid.{gcd-rest}
 use Rattle.number_fields.specs.Parts.{IsProper, IsTooFine}
 

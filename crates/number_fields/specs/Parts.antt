@@ -1,7 +1,8 @@
 -- The parts of a value: a whole number, and a fraction below 1.
 use Rattle.std.specs.Prelude.{◌≡◌, ℕ, ◌*◌, ◌^◌, ◌<◌, ◌≤◌, Option, MatchOption, true, false}
 use Rattle.rational.specs.Gcd.{IsCoprime}
-use Rattle.rational.specs.Rational.{ℚ, fits_width}
+use Rattle.rational.specs.Rational.{ℚ}
+use Rattle.rational.specs.Width.{fits_width}
 
 -- the number, exactly where it is below 2^127
 abbrev pub Below : ℕ → Option ℕ → Type 0

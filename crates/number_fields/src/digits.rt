@@ -1,11 +1,41 @@
 //! The digits of a number, those before the point and those after it, by their places from the last on.
-ghost use Rattle.std.specs.Prelude.{◌≡◌, true, ◌^◌, ◌/◌, ◌%◌, ◌*◌, ◌≤◌, ◌++◌};
+ghost use Rattle.std.specs.Prelude.{◌≡◌, true, ◌+◌, ◌^◌, ◌/◌, ◌%◌, ◌*◌, ◌<◌, ◌≤◌, ◌++◌, length};
 ghost use Rattle.std.specs.List.{list_all};
-ghost use Rattle.lp_text.specs.PlainCards.{digits_value, is_digit};
+ghost use Rattle.lp_text.specs.Digits.{digits_value, is_digit};
 ghost use Rattle.number_fields.specs.Parts.{Below, Reduces};
 
 use crate::LIMIT;
 use crate::tenths::tenth;
+
+// How many digits are read in 64 bits.
+pub(crate) const SHORT: usize = 18;
+
+// Ten to a few places.
+#[tactic(auto, using(crate::proofs::Places::ten_pos))]
+pub(crate) fn short_power(places: usize) -> u64
+    requires { places ≤ 18 }
+    ensures value { result ≡ 10 ^ places }
+    ensures positive { 0 < result }
+{
+    10u64.pow(places as u32)
+}
+
+// The number that few digits spell.
+pub(crate) fn short_number(whole: &[u8], decimals: &[u8]) -> u64
+    requires whole { list_all is_digit whole.now ≡ true }
+    requires decimals { list_all is_digit decimals.now ≡ true }
+    requires short { length whole.now + length decimals.now ≤ 18 }
+    ensures { result ≡ digits_value (whole.now ++ decimals.now) }
+{
+    let mut number = 0;
+    for byte in whole {
+        number = 10 * number + u64::from(*byte - b'0');
+    }
+    for decimal in decimals {
+        number = 10 * number + u64::from(*decimal - b'0');
+    }
+    number
+}
 
 // The digit at this place, counted from the last; 0 before the first.
 #[tactic(auto, using(crate::proofs::Places::decimal_at, crate::proofs::Places::whole_at, crate::proofs::Places::no_digit))]

@@ -11,23 +11,19 @@
 //!   spell a number far above 128 bits, as 2^-126 with its 89 digits. The digits after the point, with the
 //!   exponent counted in, are read from the last to the first as a fraction in lowest terms, whose
 //!   denominator only grows; those before it from the first on.
-//! - **Stands on** `exact_frac` for the fraction, and on the definitions of `mps_model` and `lp_text`.
+//! - **Stands on** `exact_frac` for the fraction, and on `mps_model` and `lp_text` for the definitions and the faults.
 #![tactic(auto)]
 
 ghost use Rattle.std.specs.Prelude.{◌≡◌, MatchResult, Ok, Err};
 ghost use Rattle.mps_model.specs.NumberField.{field_value};
-ghost use Rattle.number_fields.specs.Spelled.{fault_of};
 
 mod digits;
-mod faults;
 mod parts;
 mod spelling;
 mod tenths;
-#[cfg(test)]
-mod tests;
 
 use exact_frac::Frac;
-pub use faults::FieldFault;
+use mps_model::FieldFault;
 
 // What the parts of a fraction stay below.
 const LIMIT: u128 = 1 << 127;
@@ -39,7 +35,7 @@ const LIMIT: u128 = 1 << 127;
 /// The first that is so: `Malformed` where it spells none, `Exponent` where the exponent's size is above
 /// 30, `Unfit` where the value does not fit 127 bits.
 pub fn field(bytes: &[u8]) -> Result<Frac, FieldFault>
-    ensures { MatchResult result (λ value. field_value bytes.now ≡ Ok value) (λ fault. field_value bytes.now ≡ Err (fault_of fault)) }
+    ensures { MatchResult result (λ value. field_value bytes.now ≡ Ok value) (λ fault. field_value bytes.now ≡ Err fault) }
 {
     let (negative, body) = spelling::sign(bytes);
     let (whole, decimals, rest) = spelling::mantissa(body);

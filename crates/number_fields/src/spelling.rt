@@ -1,11 +1,11 @@
 //! The parts of a spelling: sign, digits and exponent.
 ghost use Rattle.std.specs.Prelude.{◌≡◌, true, ◌≤◌, length, min, MatchResult, Ok, Err};
 ghost use Rattle.std.specs.List.{list_all};
-ghost use Rattle.lp_text.specs.PlainCards.{digits_value, is_digit};
+ghost use Rattle.lp_text.specs.Digits.{digits_value, is_digit};
 ghost use Rattle.mps_model.specs.NumberField.{is_negative, unsigned, leading_digits, after_digits, decimals, after_decimals, is_exponent_letter, is_digits, signed};
-ghost use Rattle.number_fields.specs.Spelled.{fault_of, exponent_within};
+ghost use Rattle.number_fields.specs.Spelled.{exponent_within};
 
-use crate::faults::FieldFault;
+use mps_model::FieldFault;
 
 // Whether a minus begins the text, and the text after its sign.
 pub(crate) fn sign(text: &[u8]) -> (bool, &[u8])
@@ -87,7 +87,7 @@ fn small_number(text: &[u8]) -> u32
 
 // Whether the exponent is below 0, and its size, which is at most 30.
 pub(crate) fn exponent(text: &[u8]) -> Result<(bool, u32), FieldFault>
-    ensures { MatchResult result (λ e. (exponent_within text.now ≡ Ok (signed e.0 e.1)) × (e.1 ≤ 30)) (λ fault. exponent_within text.now ≡ Err (fault_of fault)) }
+    ensures { MatchResult result (λ e. (exponent_within text.now ≡ Ok (signed e.0 e.1)) × (e.1 ≤ 30)) (λ fault. exponent_within text.now ≡ Err fault) }
 {
     match text {
         [] => Ok((false, 0)),

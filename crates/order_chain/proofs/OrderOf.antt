@@ -1,11 +1,9 @@
 -- How the order follows from the ring of the links.
-use Rattle.std.proofs.Common.{◌≡◌, ℕ, ◌+◌, ◌-◌, ◌<◌, ◌≤◌, List, [], ◌∷◌, ◌++◌, length, get_or, reverse, true, false, not, eqb, refl, sym, ap, subst, ◌∙◌, ⊎_elim, arith, ltb, Option, Some, None, slice_get}
+use Rattle.std.proofs.Common.{◌≡◌, ℕ, ◌+◌, ◌<◌, ◌≤◌, List, [], ◌∷◌, ◌++◌, length, reverse, true, false, not, eqb, refl, sym, ap, subst, ◌∙◌, ⊎_elim, arith, ltb, Option, Some, None, slice_get}
 use Rattle.std.specs.List.{All, AllByRecursion, IsDistinct, filter, range_with_len}
 use Rattle.std.specs.List.Sorted.{IsPermutation}
 use Rattle.std.proofs.lemmas.List.Sorted.{All-permutation, IsPermutation-trans, IsPermutation-filter_both, IsPermutation-reverse, Contains-permutation, length_permutation, list_any-IsPermutation}
 use Rattle.std.proofs.lemmas.List.FromFn.{length-range_with_len, get_or-range_with_len}
-use Rattle.std.proofs.lemmas.List.{get_or-reverse, length-reverse}
-use Rattle.std.proofs.lemmas.Option.{slice_get-get_or}
 use Rattle.std.proofs.lemmas.Map.Keys.{IsDistinct-head, IsDistinct-tail}
 use Rattle.std.proofs.lemmas.Bool.{cases_eq, eq-eqb, ne_eqb, eqb-true, false≢true, or_parts, or_from, or_cases, cond-true, cond-false, lt-ltb, le-ltb, both_ways}
 use Rattle.chain_links.specs.Lists.{has, without, Lacks, after, before}
@@ -39,15 +37,6 @@ filter-once p (x ∷ xs) once h =
 IsPermutation-with_last : (p : ℕ) (xs : List ℕ) → IsDistinct eqb xs → has p xs ≡ true → IsPermutation xs (order_with_last xs p)
 IsPermutation-with_last p xs once h =
     subst (λ ys. IsPermutation xs (without p xs ++ ys)) (filter-once p xs once h) (IsPermutation-filter_both (λ x. not (eqb x p)) (λ x. eqb x p) (λ x. elim (eqb x p) as (λ b. b ≡ not (not b)) [ true ↦ refl | false ↦ refl ]) xs)
-
--- the first of a list that is read from its end
-slice_get-reverse : (xs : List ℕ) → slice_get (reverse xs) 0 ≡ slice_get xs (length xs - 1)
-slice_get-reverse [] = refl
-slice_get-reverse (x ∷ xs) =
-    let ys = x ∷ xs in
-    let back : 0 < length (reverse ys) = rw length-reverse (omega arith) in
-    let at_end : length ys - 1 - 0 ≡ length ys - 1 = omega arith in
-    slice_get-get_or (reverse ys) 0 x back ∙ ap Some (get_or-reverse ys 0 x (omega arith) ∙ ap (λ k. get_or ys k x) at_end) ∙ sym (slice_get-get_or ys (length ys - 1) x (omega arith))
 
 -- what a closed path says of its end and of an item
 module _ (m : BothWays) (len : ℕ) (xs : List ℕ) (leads : Leads m len xs len) (below : All (λ x. x < len) xs) where
@@ -92,8 +81,8 @@ module _ (l : BothWays) (len : ℕ) (ok : IsOrdered l len) where
   pub first_says : position_of (next_of l len) len ≡ slice_get (order_of l len) 0
   first_says = first_of l len (order_of l len) leads below
 
-  pub last_says : position_of (prev_of l len) len ≡ slice_get (order_of l len) (length (order_of l len) - 1)
-  last_says = first_of (flipped l) len (reverse (order_of l len)) leads_back below_back ∙ slice_get-reverse (order_of l len)
+  pub last_says : position_of (prev_of l len) len ≡ slice_get (reverse (order_of l len)) 0
+  last_says = first_of (flipped l) len (reverse (order_of l len)) leads_back below_back
 
   pub after_says : (p : ℕ) → p < len → position_of (next_of l p) len ≡ after p (order_of l len)
   after_says p hp = after_of l len (order_of l len) leads below p (has-order p hp)

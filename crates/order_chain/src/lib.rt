@@ -15,7 +15,7 @@
 
 #![tactic(auto)]
 
-ghost use Rattle.std.specs.Prelude.{◌≡◌, ◌+◌, ◌-◌, ◌<◌, length, IfOk, IfSome, slice_get};
+ghost use Rattle.std.specs.Prelude.{◌≡◌, ◌+◌, ◌<◌, length, IfOk, IfSome, reverse, slice_get};
 ghost use Rattle.std.specs.List.{range_with_len};
 ghost use Rattle.chain_links.specs.Lists.{after, before};
 ghost use Rattle.chain_links.specs.Links.{prev_of, with_node_before};
@@ -83,7 +83,7 @@ impl OrderChain {
 
     /// The last position.
     pub fn last(&self) -> Option<usize>
-        ensures last { result ≡ slice_get self.now (length self.now - 1) }
+        ensures last { result ≡ slice_get (reverse self.now) 0 }
         ensures position { IfSome result (λ q. q < length self.now) }
         ensures whole { IsWhole self.now }
     {
@@ -157,76 +157,4 @@ fn position(node: usize, len: usize) -> Option<usize>
     ensures below { IfSome result (λ p. p < len) }
 {
     if node < len { Some(node) } else { None }
-}
-
-#[cfg(test)]
-mod tests {
-    use super::*;
-    use std::alloc::AllocError;
-    use std::process::Abort;
-    use std::test::Fail;
-
-    const MOST: usize = 9;
-
-    // The first positions by `first` and `after`.
-    fn forth(alloc: Global, order: &OrderChain) -> Result<Vec<usize>, AllocError> {
-        let mut list = Vec::new(alloc);
-        let mut at = order.first();
-        for _ in 0..MOST {
-            let Some(p) = at else { break };
-            list.push(p)?;
-            at = order.after(p);
-        }
-        Ok(list)
-    }
-
-    // The last positions by `last` and `before`, the last one first.
-    fn back(alloc: Global, order: &OrderChain) -> Result<Vec<usize>, AllocError> {
-        let mut list = Vec::new(alloc);
-        let mut at = order.last();
-        for _ in 0..MOST {
-            let Some(p) = at else { break };
-            list.push(p)?;
-            at = order.before(p);
-        }
-        Ok(list)
-    }
-
-    // Makes each move on an order of `m` and on a plain list, and compares the two from both ends.
-    fn play(rt: &impl Abort, alloc: Global, m: usize, moves: &[usize]) -> Result<Vec<usize>, Fail>
-        requires { 0 < m }
-    {
-        let mut order = OrderChain::new(alloc, m)?;
-        let mut plain: Vec<usize> = (0..m).collect(alloc)?;
-        for p in moves {
-            let p = *p % m;
-            order.move_to_end(p);
-            plain.retain(|x| *x != p);
-            plain.push(p)?;
-            assert_eq!(rt; forth(alloc, &order)?.as_slice(), plain.as_slice());
-            let mut mirrored = back(alloc, &order)?;
-            mirrored.reverse();
-            assert_eq!(rt; mirrored.as_slice(), plain.as_slice());
-        }
-        Ok(plain)
-    }
-
-    #[test]
-    fn an_order_is_a_list(rt: HostRuntime) -> Result<(), Fail> {
-        let alloc = rt.alloc();
-        assert_eq!(rt;
-            play(&rt, alloc, 4, &[1])?.as_slice(),
-            [0, 2, 3, 1].as_slice()
-        );
-        assert_eq!(rt; forth(alloc, &OrderChain::new(alloc, 0)?)?.len(), 0);
-        // a thousand moves, drawn by a linear congruential generator
-        let mut drawn = Vec::new(alloc);
-        let mut draw: u64 = 1;
-        for _ in 0..1000 {
-            draw = (draw % (1 << 31)) * 1_103_515_245 + 12345;
-            drawn.push((draw >> 8) as usize)?;
-        }
-        let _ = play(&rt, alloc, MOST, &drawn)?;
-        Ok(())
-    }
 }

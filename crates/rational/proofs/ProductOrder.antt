@@ -1,24 +1,15 @@
--- What the linear solver lacks: which of two fractions is the greater, and the order of products.
-use Rattle.std.proofs.Common.{◌≡◌, ℕ, ◌*◌, ◌<◌, mul-pos, ℤ, pos, negsuc, ◌*ℤ◌, ◌≤ℤ◌, ◌<ℤ◌, arith}
-use Rattle.std.proofs.lemmas.Int.{ints, by_lt_z}
-use Rattle.rational.specs.Rational.{ℚ, positive, zero_ℚ, ◌-ℚ◌, ◌*ℚ◌, inverse, ◌≤ℚ◌, ◌<ℚ◌, le_ℚ, lt_ℚ}
-use Rattle.rational.specs.Ring.{ring_ℤ, ◌≐◌, ◌⊗◌, ◌⊖◌, 𝟘, 𝟙}
-use Rattle.rational.specs.RationalRing.{ring_ℚ}
-use Rattle.rational.specs.RationalRing.Parts.{IsOver, over_parts, over_same, over-zero, over-*}
+-- The order of products, which the linear solver lacks.
+use Rattle.std.proofs.Common.{◌≡◌, ◌*◌, ◌<◌, mul-pos, ℤ, pos, negsuc, ◌*ℤ◌, ◌≤ℤ◌, ◌<ℤ◌, arith}
+use Rattle.std.proofs.lemmas.Int.{ints}
+use Rattle.rational.specs.Rational.{ℚ, zero_ℚ, neg_ℚ, ◌-ℚ◌, ◌*ℚ◌, inverse, ◌≤ℚ◌, ◌<ℚ◌}
+use Rattle.rational.proofs.Ratio.{positive}
+use Rattle.rational.proofs.Ring.{⊝◌, ◌≐◌, ◌⊗◌, ◌⊖◌, 𝟘, 𝟙}
+use Rattle.rational.proofs.RationalRing.{ring_ℚ}
+use Rattle.rational.proofs.RationalRing.Parts.{over_parts, over-*, zero_over}
 use Rattle.rational.proofs.FieldLaws.{*ℚ-inverse}
-use Rattle.rational.specs.Linear.{linear, ◌≼◌, ◌≺◌, ◌≐◌, ◌⟹◌, never}
-use Rattle.rational.specs.Linear.Transfer.{le_to, le_from, lt_to, lt_from}
-
--- one of two fractions is below the other, or not
-pub by_lt_ℚ : {P : Type 0} (a b : ℚ) → (a <ℚ b → P) → (b ≤ℚ a → P) → P
-unfolding le_ℚ lt_ℚ
-by_lt_ℚ a b below above =
-    by_lt_z (a.numerator *ℤ pos b.denominator) (b.numerator *ℤ pos a.denominator)
-    (λ h. below (record { lt = h.lt })) (λ h. above (record { le = h.le }))
-
--- zero, over any number
-zero_over : (d : ℕ) → 0 < d → IsOver zero_ℚ (pos 0) d
-zero_over d some = over_same over-zero (pos 0) d some (ring_ℤ 1 (λ d. 𝟘 ⊗ d ≐ 𝟘 ⊗ 𝟙) tt (pos d))
+use Rattle.rational.proofs.OrderLaws.{by_lt_ℚ}
+use Rattle.rational.proofs.Linear.{linear, ◌≼◌, ◌≺◌, ◌≐◌, ◌⟹◌, never}
+use Rattle.rational.proofs.Linear.Transfer.{le_to, le_from, lt_to, lt_from}
 
 nonnegative : (m n : ℤ) → pos 0 ≤ℤ m → pos 0 ≤ℤ n → pos 0 ≤ℤ (m *ℤ n)
 nonnegative (pos m) (pos n) p q = omega (arith, ints)
@@ -58,6 +49,13 @@ pub *ℚ_strict_mono : (k a b : ℚ) → zero_ℚ <ℚ k → a <ℚ b → k *ℚ
     let more : zero_ℚ <ℚ b -ℚ a = linear 2 (λ x y. x ≺ y ⟹ 𝟘 ≺ y ⊖ x) (omega (arith, ints)) a b q in
     linear 3 (λ s u v. 𝟘 ≺ s ⟹ s ≐ v ⊖ u ⟹ u ≺ v) (omega (arith, ints)) (k *ℚ (b -ℚ a)) (k *ℚ a) (k *ℚ b)
     (*ℚ_positive k (b -ℚ a) p more) (ring_ℚ 3 (λ k a b. k ⊗ (b ⊖ a) ≐ k ⊗ b ⊖ k ⊗ a) tt k a b)
+
+-- a product with what is not above 0 turns the order
+pub product-turned : (c a b : ℚ) → c ≤ℚ zero_ℚ → a ≤ℚ b → c *ℚ b ≤ℚ c *ℚ a
+product-turned c a b sign order =
+    linear 4 (λ p p' n n'. n' ≼ n ⟹ n ≐ ⊝ p ⟹ n' ≐ ⊝ p' ⟹ p ≼ p') (omega (arith, ints)) (c *ℚ b) (c *ℚ a) (neg_ℚ c *ℚ b) (neg_ℚ c *ℚ a)
+    (*ℚ_mono (neg_ℚ c) a b (linear 1 (λ c. c ≼ 𝟘 ⟹ 𝟘 ≼ ⊝ c) (omega (arith, ints)) c sign) order)
+    (ring_ℚ 2 (λ c x. (⊝ c) ⊗ x ≐ ⊝ (c ⊗ x)) tt c b) (ring_ℚ 2 (λ c x. (⊝ c) ⊗ x ≐ ⊝ (c ⊗ x)) tt c a)
 
 -- and what is positive may be taken away from both sides
 pub *ℚ_cancel_le : (k a b : ℚ) → zero_ℚ <ℚ k → k *ℚ a ≤ℚ k *ℚ b → a ≤ℚ b

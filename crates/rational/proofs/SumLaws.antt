@@ -1,11 +1,15 @@
 -- Laws of finite sums of fractions.
 use Rattle.std.proofs.Common.{◌≡◌, ◌≢◌, ℕ, zero, suc, ◌+◌, ◌<◌, ◌≤◌, ◌⊎◌, inl, inr, refl, sym, ◌∙◌, ap, ap₂, subst, Bool, true, false, cond, eqb, eqb-true, eq-eqb, ne_eqb, arith, add-suc, add-zero}
 use Rattle.std.proofs.lemmas.Bool.{eqb-false}
+use Rattle.std.proofs.lemmas.Int.{ints}
 use Rattle.std.proofs.Math.Nat.{eq-or-lt_of_le}
-use Rattle.rational.specs.Rational.{ℚ, zero_ℚ, ◌+ℚ◌, ◌-ℚ◌, ◌*ℚ◌}
-use Rattle.rational.specs.RationalRing.{ring_ℚ}
-use Rattle.rational.specs.Ring.{◌≐◌, ◌⊕◌, ◌⊖◌, ◌⊗◌, 𝟘}
+use Rattle.rational.specs.Rational.{ℚ, zero_ℚ, one_ℚ, ◌≤ℚ◌, ◌+ℚ◌, ◌-ℚ◌, ◌*ℚ◌}
+use Rattle.rational.proofs.RationalRing.{ring_ℚ}
+use Rattle.rational.proofs.Ring.{◌≐◌, ◌⊕◌, ◌⊖◌, ◌⊗◌, 𝟘, 𝟙}
 use Rattle.rational.specs.Sum.{sum_ℚ}
+use Rattle.rational.specs.Sparse.{at_index}
+use Rattle.rational.proofs.Linear.{linear, ◌≼◌, ◌≐◌, ◌⟹◌}
+use Rattle.rational.proofs.SparseLaws.{at_index-same, at_index-other}
 
 pub sum-zero_terms : (f : ℕ → ℚ) → sum_ℚ 0 f ≡ zero_ℚ
 unfolding sum_ℚ
@@ -45,6 +49,15 @@ pub sum-scale_right : (n : ℕ) (f : ℕ → ℚ) (c : ℚ) → sum_ℚ n (λ i.
 unfolding sum_ℚ
 sum-scale_right zero f c = ring_ℚ 1 (λ c. 𝟘 ≐ 𝟘 ⊗ c) tt c
 sum-scale_right (suc n) f c = ap (λ s. s +ℚ f n *ℚ c) (sum-scale_right n f c) ∙ ring_ℚ 3 (λ c s t. s ⊗ c ⊕ t ⊗ c ≐ (s ⊕ t) ⊗ c) tt c (sum_ℚ n f) (f n)
+
+-- no greater terms make no greater sum
+pub sum-mono : (n : ℕ) (f g : ℕ → ℚ) → ((i : ℕ) → i < n → f i ≤ℚ g i) → sum_ℚ n f ≤ℚ sum_ℚ n g
+sum-mono zero f g h =
+    linear 2 (λ x y. x ≐ 𝟘 ⟹ y ≐ 𝟘 ⟹ x ≼ y) (omega (arith, ints)) (sum_ℚ 0 f) (sum_ℚ 0 g) (sum-zero_terms f) (sum-zero_terms g)
+sum-mono (suc n) f g h =
+    linear 6 (λ x y s t a b. x ≐ s ⊕ a ⟹ y ≐ t ⊕ b ⟹ s ≼ t ⟹ a ≼ b ⟹ x ≼ y) (omega (arith, ints))
+    (sum_ℚ (suc n) f) (sum_ℚ (suc n) g) (sum_ℚ n f) (sum_ℚ n g) (f n) (g n)
+    (sum-suc n f) (sum-suc n g) (sum-mono n f g (λ i b. h i (omega arith))) (h n (omega arith))
 
 -- two sums change places
 pub sum-exchange : (m n : ℕ) (f : ℕ → ℕ → ℚ) → sum_ℚ m (λ i. sum_ℚ n (λ j. f i j)) ≡ sum_ℚ n (λ j. sum_ℚ m (λ i. f i j))
@@ -103,3 +116,22 @@ sum-split n zero f = ap (λ k. sum_ℚ k f) (add-zero n) ∙ ring_ℚ 1 (λ s. s
 sum-split n (suc m) f =
     ap (λ k. sum_ℚ k f) (add-suc n m) ∙ ap (λ s. s +ℚ f (n + m)) (sum-split n m f)
     ∙ ring_ℚ 3 (λ a b c. a ⊕ b ⊕ c ≐ a ⊕ (b ⊕ c)) tt (sum_ℚ n f) (sum_ℚ m (λ i. f (n + i))) (f (n + m))
+
+-- the first term comes before the others
+pub sum-shift : (n : ℕ) (f : ℕ → ℚ) → sum_ℚ (suc n) f ≡ f 0 +ℚ sum_ℚ n (λ k. f (suc k))
+unfolding sum_ℚ
+sum-shift zero f = ring_ℚ 1 (λ a. 𝟘 ⊕ a ≐ a ⊕ 𝟘) tt (f 0)
+sum-shift (suc n) f =
+    ap (λ z. z +ℚ f (suc n)) (sum-shift n f)
+    ∙ ring_ℚ 3 (λ a s b. a ⊕ s ⊕ b ≐ a ⊕ (s ⊕ b)) tt (f 0) (sum_ℚ n (λ k. f (suc k))) (f (suc n))
+
+-- the sum of a vector against a row of the unit matrix
+pub sum-unit : (m k : ℕ) (v : ℕ → ℚ) → k < m → sum_ℚ m (λ p. at_index k p one_ℚ *ℚ v p) ≡ v k
+sum-unit m k v within =
+    sum-single m k (λ p. at_index k p one_ℚ *ℚ v p) within (λ p b other. ap (λ a. a *ℚ v p) (at_index-other k p one_ℚ (λ e. other (sym e))) ∙ ring_ℚ 1 (λ a. 𝟘 ⊗ a ≐ 𝟘) tt (v p))
+    ∙ ap (λ a. a *ℚ v k) (at_index-same k one_ℚ) ∙ ring_ℚ 1 (λ a. 𝟙 ⊗ a ≐ a) tt (v k)
+
+pub sum-unit_right : (m k : ℕ) (v : ℕ → ℚ) → k < m → sum_ℚ m (λ p. v p *ℚ at_index p k one_ℚ) ≡ v k
+sum-unit_right m k v within =
+    sum-single m k (λ p. v p *ℚ at_index p k one_ℚ) within (λ p b other. ap (λ a. v p *ℚ a) (at_index-other p k one_ℚ other) ∙ ring_ℚ 1 (λ a. a ⊗ 𝟘 ≐ 𝟘) tt (v p))
+    ∙ ap (λ a. v k *ℚ a) (at_index-same k one_ℚ) ∙ ring_ℚ 1 (λ a. a ⊗ 𝟙 ≐ a) tt (v k)

@@ -1,7 +1,9 @@
 pub mod Gcd
-pub mod Integer
+pub mod Inner
 pub mod Rational
-pub mod Ring
-pub mod RationalRing
-pub mod Linear
+pub mod Width
 pub mod Sum
+pub mod Matrix
+pub mod Sparse
+pub mod Worked
+pub mod Lines

@@ -1,6 +1,6 @@
--- Finite sums of fractions, vectors and their products.
-use Rattle.std.proofs.Common.{ℕ, zero, suc, List, [], ◌∷◌, get_or}
-use Rattle.rational.specs.Rational.{ℚ, zero_ℚ, ◌+ℚ◌, ◌*ℚ◌}
+-- Finite sums of fractions, and vectors.
+use Rattle.std.proofs.Common.{ℕ, zero, suc, List, get_or}
+use Rattle.rational.specs.Rational.{ℚ, zero_ℚ, ◌+ℚ◌}
 
 -- the sum of f 0 to f (n - 1)
 unfoldable pub sum_ℚ : ℕ → (ℕ → ℚ) → ℚ
@@ -11,10 +11,3 @@ sum_ℚ (suc n) f = sum_ℚ n f +ℚ f n
 -- a vector's item, which is 0 past its end
 abbrev pub at : List ℚ → ℕ → ℚ
 at xs i = get_or xs i zero_ℚ
-
--- the sum of the products of the items of two vectors
-unfoldable pub dot : List ℚ → List ℚ → ℚ
-unfolding zero_ℚ ◌+ℚ◌ ◌*ℚ◌
-dot [] ys = zero_ℚ
-dot (x ∷ xs) [] = zero_ℚ
-dot (x ∷ xs) (y ∷ ys) = x *ℚ y +ℚ dot xs ys

@@ -6,13 +6,14 @@ use Rattle.lp_model.specs.declared.Entry.{Entry}
 use Rattle.lp_model.specs.declared.Entry.TheVariants.{Swap}
 use Rattle.lp_model.specs.declared.Side.TheVariants as side
 use Rattle.rational.specs.Rational.{ℚ, zero_ℚ, ◌≤ℚ◌, ◌<ℚ◌}
-use Rattle.rational.specs.Ring.{𝟘}
-use Rattle.rational.specs.Linear.{linear, ◌≼◌, ◌≺◌, ◌⟹◌, never}
+use Rattle.rational.proofs.Ring.{𝟘}
+use Rattle.rational.proofs.Linear.{linear, ◌≼◌, ◌≺◌, ◌⟹◌, never}
 use Rattle.lp_model.specs.Deck.{Deck}
-use Rattle.lp_model.specs.Instance.{instance_of}
-use Rattle.lp_model.specs.Run.{IsSpent, moves}
-use Rattle.lp_model.specs.Simple.{IsSimple}
-use Rattle.lp_model.specs.Tableau.{prices_of, table_column}
+use Rattle.lp_run.specs.Instance.{instance_of}
+use Rattle.lp_model.specs.Log.{moves}
+use Rattle.lp_run.specs.Run.{IsSpent}
+use Rattle.lp_run.specs.Simple.{IsSimple}
+use Rattle.lp_run.specs.Tableau.{prices_of, table_column}
 use Rattle.simple_laws.specs.Plain.{IsEntering, IsLeaving, NoneLeaves, Plain, basic_in}
 use Rattle.simple_laws.specs.Stands.{IsEndless, Stands, whole_table}
 use Rattle.simple_laws.proofs.Limits.{swap_limit}

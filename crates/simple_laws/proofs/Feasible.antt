@@ -3,15 +3,16 @@ use Rattle.std.proofs.Common.{◌≡◌, ℕ, ◌<◌, ◌≤◌, ◌⊎◌, inl
 use Rattle.std.proofs.lemmas.Int.{ints}
 use Rattle.lp_model.specs.declared.Entry.{Entry}
 use Rattle.rational.specs.Rational.{ℚ, zero_ℚ, ◌-ℚ◌, ◌*ℚ◌, ◌/ℚ◌, neg_ℚ, ◌≤ℚ◌, ◌<ℚ◌}
-use Rattle.rational.specs.RationalRing.{ring_ℚ}
-use Rattle.rational.specs.Ring.{◌≐◌, ◌⊗◌, ⊝◌, ◌⊖◌, 𝟘}
-use Rattle.rational.specs.Linear.{linear, ◌≼◌, ◌≺◌, ◌≐◌, ◌⟹◌, never}
+use Rattle.rational.proofs.RationalRing.{ring_ℚ}
+use Rattle.rational.proofs.Ring.{◌≐◌, ◌⊗◌, ⊝◌, ◌⊖◌, 𝟘}
+use Rattle.rational.proofs.Linear.{linear, ◌≼◌, ◌≺◌, ◌≐◌, ◌⟹◌, never}
 use Rattle.rational.specs.Sum.{at}
 use Rattle.rational.proofs.FieldLaws.{/ℚ-*ℚ}
-use Rattle.rational.proofs.ProductOrder.{*ℚ_cancel_le, *ℚ_mono, *ℚ_nonnegative, by_lt_ℚ}
+use Rattle.rational.proofs.ProductOrder.{*ℚ_cancel_le, *ℚ_mono, *ℚ_nonnegative}
+use Rattle.rational.proofs.OrderLaws.{by_lt_ℚ}
 use Rattle.rational.proofs.SumLaws.{at_or_other}
 use Rattle.lp_model.specs.Deck.{Deck}
-use Rattle.lp_model.specs.Simple.{IsSimple}
+use Rattle.lp_run.specs.Simple.{IsSimple}
 use Rattle.simple_laws.specs.Feasible.{IsFeasibleTable}
 use Rattle.simple_laws.specs.Plain.{IsEntering, IsLeaving, IsPivoted, Plain, basic_in, cell, ratio_at}
 use Rattle.simple_laws.specs.Stands.{IsMadeOf, Stands}

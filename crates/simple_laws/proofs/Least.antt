@@ -3,10 +3,9 @@ use Rattle.std.proofs.Common.{◌≡◌, ℕ, zero, suc, ◌<◌, ◌≤◌, ◌
 use Rattle.std.proofs.lemmas.Bool.{cases_lt}
 use Rattle.std.proofs.lemmas.Int.{ints}
 use Rattle.rational.specs.Rational.{zero_ℚ, ◌≤ℚ◌, ◌<ℚ◌}
-use Rattle.rational.specs.Linear.{linear, ◌≼◌, ◌≺◌, ◌≐◌, ◌⟹◌}
-use Rattle.rational.proofs.ProductOrder.{by_lt_ℚ}
+use Rattle.rational.proofs.Linear.{linear, ◌≼◌, ◌≺◌, ◌≐◌, ◌⟹◌}
+use Rattle.rational.proofs.OrderLaws.{by_lt_ℚ, above_and_below}
 use Rattle.simple_laws.specs.Plain.{IsLeaving, Plain, basic_in, cell, ratio_at}
-use Rattle.simple_laws.proofs.Endless.{above_and_below}
 
 -- position p limits the rise of column q no later than position k
 abbrev Precedes : Plain → (q p k : ℕ) → Type 0

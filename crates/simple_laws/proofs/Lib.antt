@@ -1,10 +1,8 @@
 pub mod Whole
 pub mod Limits
 pub mod Pivots
-pub mod Tables
 pub mod Made
 pub mod Moved
-pub mod Listing
 pub mod Complete
 pub mod Optimum
 pub mod Endless

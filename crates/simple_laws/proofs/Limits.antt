@@ -6,15 +6,16 @@ use Rattle.std.specs.declared.cmp.Ordering.{Ordering}
 use Rattle.std.specs.declared.cmp.Ordering.TheVariants.{Less, Equal, Greater}
 use Rattle.lp_model.specs.declared.Entry.TheVariants.{Swap}
 use Rattle.lp_model.specs.declared.Side.TheVariants as side
-use Rattle.rational.specs.Rational.{ℚ, positive, ratio, ratio-parts, zero_ℚ, one_ℚ, ◌*ℚ◌, ◌/ℚ◌, neg_ℚ, abs_ℚ, cmp_ℚ, lt_ℚ, ◌≤ℚ◌, ◌<ℚ◌}
-use Rattle.rational.specs.RationalRing.{ring_ℚ}
-use Rattle.rational.specs.RationalRing.Parts.{IsOver, over_parts, over_same, over-zero}
-use Rattle.rational.specs.Ring.{ring_ℤ, ◌≐◌, ◌⊖◌, ◌⊗◌, ⊝◌, 𝟘, 𝟙}
-use Rattle.rational.specs.Linear.{linear, ◌≼◌, ◌≺◌, ◌⟹◌, never}
-use Rattle.rational.specs.Linear.Transfer.{lt_from}
-use Rattle.rational.proofs.ProductOrder.{by_lt_ℚ}
+use Rattle.rational.specs.Rational.{ℚ, ratio, zero_ℚ, one_ℚ, ◌*ℚ◌, ◌/ℚ◌, neg_ℚ, abs_ℚ, cmp_ℚ, lt_ℚ, ◌≤ℚ◌, ◌<ℚ◌}
+use Rattle.rational.proofs.Ratio.{positive, ratio-parts}
+use Rattle.rational.proofs.RationalRing.{ring_ℚ}
+use Rattle.rational.proofs.RationalRing.Parts.{IsOver, over_parts, over_same, over-zero}
+use Rattle.rational.proofs.Ring.{ring_ℤ, ◌≐◌, ◌⊖◌, ◌⊗◌, ⊝◌, 𝟘, 𝟙}
+use Rattle.rational.proofs.Linear.{linear, ◌≼◌, ◌≺◌, ◌⟹◌, never}
+use Rattle.rational.proofs.Linear.Transfer.{lt_from}
+use Rattle.rational.proofs.OrderLaws.{by_lt_ℚ}
 use Rattle.lp_model.specs.Deck.{nonnegative}
-use Rattle.lp_model.specs.Step.{Limit, direction, distance_by}
+use Rattle.lp_run.specs.Step.{Limit, direction, distance_by}
 
 below_true : (a b : ℚ) → a <ℚ b → lt_ℚ a b ≡ true
 below_true a b h = by_test (lt_ℚ a b) h.lt

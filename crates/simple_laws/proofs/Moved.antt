@@ -7,32 +7,27 @@ use Rattle.lp_model.specs.declared.Entry.TheVariants.{Swap}
 use Rattle.lp_model.specs.declared.Side.TheVariants as side
 use Rattle.lp_model.specs.declared.Status.TheVariants as status
 use Rattle.rational.specs.Rational.{ℚ, zero_ℚ, ◌-ℚ◌, ◌*ℚ◌, ◌/ℚ◌, ◌+ℚ◌, ◌<ℚ◌}
-use Rattle.rational.specs.RationalRing.{ring_ℚ}
-use Rattle.rational.specs.Ring.{◌≐◌, ◌⊙◌≗◌⟹◌, ◌⊕◌, ◌⊖◌, ◌⊗◌, 𝟘, 𝟙}
-use Rattle.rational.specs.Linear.{linear, ◌≺◌, ◌≐◌, ◌⟹◌, never}
+use Rattle.rational.proofs.RationalRing.{ring_ℚ}
+use Rattle.rational.proofs.Ring.{◌≐◌, ◌⊙◌≗◌⟹◌, ◌⊕◌, ◌⊖◌, ◌⊗◌, 𝟘, 𝟙}
+use Rattle.rational.proofs.Linear.{linear, ◌≺◌, ◌≐◌, ◌⟹◌, never}
 use Rattle.rational.specs.Sum.{at}
 use Rattle.rational.proofs.FieldLaws.{/ℚ-*ℚ}
 use Rattle.rational.proofs.SumLaws.{at_or_other}
 use Rattle.lp_model.specs.Deck.{Deck}
-use Rattle.lp_model.specs.Instance.{Instance, bounds, column_count, instance_of, row_count}
-use Rattle.lp_model.specs.Run.{Leads}
-use Rattle.lp_model.specs.Simple.{IsSimple}
-use Rattle.lp_model.specs.State.{State, after, basic, start_of, status_of, value_at}
-use Rattle.lp_model.specs.Step.{IsNext}
-use Rattle.lp_model.specs.Tableau.{IsTableau, pivoted, prices_of, repriced, table_column}
-use Rattle.lp_model.proofs.Pivot.{Exchanges, Steps, pivot_tableau}
-use Rattle.lp_model.proofs.Simple.{simple_row_count}
+use Rattle.lp_run.specs.Instance.{bounds, column_count, instance_of, row_count}
+use Rattle.lp_run.specs.Simple.{IsSimple}
+use Rattle.lp_run.specs.State.{State, after, basic, start_of, status_of, resting_value}
+use Rattle.lp_run.specs.Step.{IsNext}
+use Rattle.lp_run.specs.Tableau.{IsTableau, pivoted, prices_of, repriced, table_column}
+use Rattle.lp_run.proofs.Pivot.{Exchanges, Steps, pivot_tableau}
+use Rattle.lp_run.proofs.Simple.{simple_row_count}
 use Rattle.simple_laws.specs.Plain.{IsEntering, IsLeaving, IsPivoted, IsSized, Plain, basic_in, cell}
 use Rattle.simple_laws.specs.Stands.{Stands, kept_column, whole_costs, whole_table, width_of}
+use Rattle.lp_run.proofs.Runs.{leads_on}
 use Rattle.simple_laws.proofs.Limits.{swap_limit}
 use Rattle.simple_laws.proofs.Pivots.{basic_is, basic_within, bounds_there, entering_apart, entering_status, entering_within, leaves, pivoting, row_of}
-use Rattle.simple_laws.proofs.Tables.{same_tableau}
+use Rattle.lp_run.proofs.Tables.{same_tableau}
 use Rattle.simple_laws.proofs.Whole.{kept_below, kept_within, within_count}
-
--- a log goes on by the next entry at its end
-pub leads_on : (inst : Instance) (s s' : State) (log : List Entry) (e : Entry) → Leads inst s log s' → IsNext inst s' e → Leads inst s (log ++ e ∷ []) (after s' e)
-leads_on inst s s' [] e leads next = (subst (λ a. IsNext inst a e) (sym leads) next, ap (λ a. after a e) leads)
-leads_on inst s s' (a ∷ log) e leads next = (leads.0, leads_on inst (after s a) s' log e leads.1 next)
 
 module _ (d : Deck) (simple : IsSimple d) (log : List Entry) (t : Plain) (h : Stands d log t) (q p : ℕ) (r : ℚ) (enters : IsEntering t q) (leaving : IsLeaving t q p r) where
   pub next_swap : IsNext (instance_of d) h.state (Swap q p side.Lower)
@@ -136,13 +131,13 @@ module _ (d : Deck) (simple : IsSimple d) (log : List Entry) (t : Plain) (h : St
           ∙ ap (λ j. at t.values k -ℚ cell t k j *ℚ r) (sym kept_is);
       placed_value = pivots.value p leaving.within ∙ ap (λ b. cond b r (at t.values p -ℚ cell t p q *ℚ r)) (eq-eqb p p refl)
           ∙ ring_ℚ 1 (λ r. r ≐ 𝟘 ⊕ r) tt r
-          ∙ ap (λ z. z +ℚ r) (sym (ap₂ value_at (entering_status d simple log t h q enters) (bounds_there d simple log t h q (entering_within d simple log t h q enters))));
-      leaves_at = ap₂ value_at left_status (bounds_there d simple log t h (basic h.state p) (subst (λ j. j < width_of d) (sym (basic_is d simple log t h p)) (h.sized.within p row_within)))
+          ∙ ap (λ z. z +ℚ r) (sym (ap₂ resting_value (entering_status d simple log t h q enters) (bounds_there d simple log t h q (entering_within d simple log t h q enters))));
+      leaves_at = ap₂ resting_value left_status (bounds_there d simple log t h (basic h.state p) (subst (λ j. j < width_of d) (sym (basic_is d simple log t h p)) (h.sized.within p row_within)))
           ∙ spent (at t.values p) (cell t p q) not_zero ∙ ap₂ (λ j c. at t.values p -ℚ cell t p j *ℚ c) (sym kept_is) (sym leaving.ratio);
-      was_basic = ap (λ s. value_at s (bounds (instance_of d) h.state.phase (basic h.state p))) (basic_status p row_within);
-      is_basic = ap (λ s. value_at s (bounds (instance_of d) h.state.phase q)) entered_status;
+      was_basic = ap (λ s. resting_value s (bounds (instance_of d) h.state.phase (basic h.state p))) (basic_status p row_within);
+      is_basic = ap (λ s. resting_value s (bounds (instance_of d) h.state.phase q)) entered_status;
       apart = leaving_apart;
-      others = λ j b away apart. ap (λ s. value_at s (bounds (instance_of d) h.state.phase j)) (other_status j apart away);
+      others = λ j b away apart. ap (λ s. resting_value s (bounds (instance_of d) h.state.phase j)) (other_status j apart away);
     }
       where
         spent : (v a : ℚ) → a ≢ zero_ℚ → zero_ℚ ≡ v -ℚ a *ℚ (v /ℚ a)

@@ -4,22 +4,24 @@ use Rattle.std.specs.Option.{unwrap_or}
 use Rattle.std.proofs.lemmas.Bool.{cases_eq, cases_lt}
 use Rattle.lp_model.specs.declared.Entry.{Entry}
 use Rattle.rational.specs.Rational.{ℚ, eq_ℚ, zero_ℚ, ◌+ℚ◌, ◌-ℚ◌, ◌*ℚ◌, neg_ℚ}
-use Rattle.rational.specs.RationalRing.{ring_ℚ}
-use Rattle.rational.specs.Ring.{◌≐◌, ◌⊙◌≗◌⟹◌, ◌⊖◌, ⊝◌, 𝟘, 𝟙}
+use Rattle.rational.proofs.RationalRing.{ring_ℚ}
+use Rattle.rational.proofs.Ring.{◌≐◌, ◌⊙◌≗◌⟹◌, ◌⊖◌, ⊝◌, 𝟘, 𝟙}
 use Rattle.rational.specs.Sum.{sum_ℚ, at}
-use Rattle.rational.proofs.SumLaws.{sum-cong}
+use Rattle.rational.proofs.SumLaws.{sum-cong, sum-unit_right}
 use Rattle.lp_model.specs.Deck.{Deck, column}
-use Rattle.lp_model.specs.Instance.{bounds, bounds_of, coefficient, column_count, cost, cost_of, instance_of, row_count, structural, structural_count}
-use Rattle.lp_model.specs.Outcome.{HasOutcome, by_position, objective_at, optimal, point}
-use Rattle.lp_model.specs.Simple.{IsSimple}
-use Rattle.lp_model.specs.Solution.{Prices, reduced}
-use Rattle.lp_model.specs.State.{rest, status_of, value_at}
-use Rattle.lp_model.specs.Step.{EndsOptimal, NoneEligible, is_fixed}
-use Rattle.lp_model.specs.Tableau.{price, prices_of as run_prices}
-use Rattle.lp_model.proofs.AtStart.{lower_zero}
-use Rattle.lp_model.proofs.Regularity.{get-map-upto, length-map-upto, same_vectors, sum-unit_right, tableau_reduced}
-use Rattle.lp_model.proofs.Simple.{simple_row_count, simple_structural, simple_structural_count}
-use Rattle.lp_model.proofs.Start.{coefficient-logical, kind_of_artificial, kind_of_logical}
+use Rattle.lp_run.specs.Instance.{bounds, kind_bounds, coefficient, column_count, cost, kind_cost, instance_of, row_count, structural, structural_count}
+use Rattle.lp_run.specs.Ends.{HasOutcome, by_position, objective_at, point, prices_in}
+use Rattle.lp_model.specs.Outcome.{optimal}
+use Rattle.lp_run.specs.Simple.{IsSimple}
+use Rattle.lp_run.specs.Solution.{Prices, reduced}
+use Rattle.lp_run.specs.State.{rest, status_of, resting_value}
+use Rattle.lp_run.specs.Step.{EndsOptimal, NoneEligible, is_fixed}
+use Rattle.lp_run.specs.Tableau.{table_price, prices_of as run_prices}
+use Rattle.simple_laws.proofs.Made.{lower_zero}
+use Rattle.rational.proofs.VectorLaws.{get-map-upto, length-map-upto, same_vectors}
+use Rattle.lp_run.proofs.Regularity.{tableau_reduced}
+use Rattle.lp_run.proofs.Simple.{simple_row_count, simple_structural, simple_structural_count}
+use Rattle.lp_run.proofs.Start.{coefficient-logical, kind_of_artificial, kind_of_logical}
 use Rattle.simple_laws.specs.Plain.{NoneEnters, Plain, basic_in}
 use Rattle.simple_laws.specs.Stands.{Stands, partial_objective, point_of, prices_of, whole_costs, whole_table, width_of}
 use Rattle.simple_laws.proofs.Pivots.{not_eligible, table_prices}
@@ -54,9 +56,9 @@ module _ (d : Deck) (simple : IsSimple d) (log : List Entry) (t : Plain) (h : St
   rests_at_zero j b = by_status (find_position t j (length d.rows))
     where
       by_status : IsFound t j (length d.rows) → rest (instance_of d) h.state j ≡ zero_ℚ
-      by_status (inl (p, within, e)) = ap (λ s. value_at s (bounds (instance_of d) h.state.phase j)) (ap (status_of h.state) (sym e) ∙ h.basics p within)
+      by_status (inl (p, within, e)) = ap (λ s. resting_value s (bounds (instance_of d) h.state.phase j)) (ap (status_of h.state) (sym e) ∙ h.basics p within)
       by_status (inr none) =
-          ap₂ (λ s f. value_at s (bounds (instance_of d) f j)) (h.others j b none) h.phase ∙ ap (λ l. unwrap_or l zero_ℚ) (lower_zero d simple j b)
+          ap₂ (λ s f. resting_value s (bounds (instance_of d) f j)) (h.others j b none) h.phase ∙ ap (λ l. unwrap_or l zero_ℚ) (lower_zero d simple j b)
 
   -- the point of the run's state is the table's
   pub point_is : point_of d t ≡ point (instance_of d) h.state t.values
@@ -68,7 +70,7 @@ module _ (d : Deck) (simple : IsSimple d) (log : List Entry) (t : Plain) (h : St
       ∙ sym (get-map-upto (λ j. by_position h.state.basis t.values j (rest (instance_of d) h.state j)) zero_ℚ (structural_count (instance_of d)) j
       (subst (λ n. j < n) (sym (simple_structural_count d simple)) b)))
 
-  -- the price of a row is its logical's reduced cost, negated
+  -- the table_price of a row is its logical's reduced cost, negated
   price_is : (i : ℕ) → i < length d.rows → at (run_prices (instance_of d) h.state (whole_table d t)) i ≡ neg_ℚ (at t.costs (length d.columns + i))
   price_is i b =
       let y = run_prices (instance_of d) h.state (whole_table d t) in
@@ -78,7 +80,7 @@ module _ (d : Deck) (simple : IsSimple d) (log : List Entry) (t : Plain) (h : St
       let reads : reduced (instance_of d) h.state y j ≡ at t.costs (length d.columns + i) =
       tableau_reduced (instance_of d) h.state (whole_table d t) t.values (whole_costs d t) h.tableau j (omega arith)
       ∙ ap (whole_costs d t) place ∙ ap (at t.costs) (kept_below d (length d.columns + i) (omega arith)) in
-      let free : cost (instance_of d) h.state.phase j ≡ zero_ℚ = ap₂ (cost_of (instance_of d)) h.phase (kind_of_logical (instance_of d) i there) in
+      let free : cost (instance_of d) h.state.phase j ≡ zero_ℚ = ap₂ (kind_cost (instance_of d)) h.phase (kind_of_logical (instance_of d) i there) in
       let alone : sum_ℚ (row_count (instance_of d)) (λ k. at y k *ℚ coefficient (instance_of d) k j) ≡ at y i =
       sum-cong (row_count (instance_of d)) _ _ (λ k c. ap (λ a. at y k *ℚ a) (coefficient-logical (instance_of d) k i there))
       ∙ sum-unit_right (row_count (instance_of d)) i (at y) there in
@@ -88,14 +90,14 @@ module _ (d : Deck) (simple : IsSimple d) (log : List Entry) (t : Plain) (h : St
   pub prices_are : run_prices (instance_of d) h.state (whole_table d t) ≡ prices_of d t
   prices_are =
       same_vectors (run_prices (instance_of d) h.state (whole_table d t)) (prices_of d t) (length d.rows)
-      (length-map-upto (price (instance_of d) h.state (whole_table d t)) (row_count (instance_of d)) ∙ simple_row_count d simple)
+      (length-map-upto (table_price (instance_of d) h.state (whole_table d t)) (row_count (instance_of d)) ∙ simple_row_count d simple)
       (length-map-upto (λ i. neg_ℚ (at t.costs (length d.columns + i))) (length d.rows))
       (λ i b. price_is i b ∙ sym (get-map-upto (λ i. neg_ℚ (at t.costs (length d.columns + i))) zero_ℚ (length d.rows) i b))
 
   -- an artificial may not enter
   artificial_fixed : (i : ℕ) → is_fixed (bounds (instance_of d) h.state.phase (structural_count (instance_of d) + row_count (instance_of d) + i)) ≡ true
   artificial_fixed i =
-      ap is_fixed (ap₂ (bounds_of (instance_of d)) h.phase (kind_of_artificial (instance_of d) i)) ∙ eq-zero
+      ap is_fixed (ap₂ (kind_bounds (instance_of d)) h.phase (kind_of_artificial (instance_of d) i)) ∙ eq-zero
 
   module _ (none : NoneEnters t) where
     none_eligible : NoneEligible (instance_of d) h.state (run_prices (instance_of d) h.state (whole_table d t))
@@ -132,7 +134,7 @@ module _ (d : Deck) (simple : IsSimple d) (log : List Entry) (t : Plain) (h : St
         ∙ ap (λ n. sum_ℚ n (λ j. (structural (instance_of d) j).cost *ℚ at x j)) (sym (simple_structural_count d simple)))
 
     optimum_there : HasOutcome (instance_of d) log (optimal (point_of d t) (prices_of d t) (partial_objective d (point_of d t) (length d.columns)))
-    optimum_there = (h.state, h.reached, (t.values, ends_optimal, point_is, objective_is (point_of d t)))
+    optimum_there = (h.state, h.reached, (prices_of d t, t.values, ends_optimal, ap (λ s. prices_in s (prices_of d t)) (sym simple.least), point_is, objective_is (point_of d t)))
 
 -- where no column enters, the outcome is optimal
 pub optimum : (d : Deck) → IsSimple d → (log : List Entry) (t : Plain) → Stands d log t → NoneEnters t

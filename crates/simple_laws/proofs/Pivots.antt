@@ -6,19 +6,20 @@ use Rattle.lp_model.specs.declared.Entry.{Entry}
 use Rattle.lp_model.specs.declared.Entry.TheVariants.{Swap}
 use Rattle.lp_model.specs.declared.Status.TheVariants as status
 use Rattle.rational.specs.Rational.{ℚ, zero_ℚ, one_ℚ, ◌*ℚ◌, ◌/ℚ◌, neg_ℚ, abs_ℚ, cmp_ℚ, ◌≤ℚ◌, ◌<ℚ◌}
-use Rattle.rational.specs.Ring.{𝟘}
-use Rattle.rational.specs.Linear.{◌≐◌, linear, ◌≼◌, ◌≺◌, ◌⟹◌, never}
+use Rattle.rational.proofs.Ring.{𝟘}
+use Rattle.rational.proofs.Linear.{◌≐◌, linear, ◌≼◌, ◌≺◌, ◌⟹◌, never}
 use Rattle.rational.specs.Sum.{at}
 use Rattle.lp_model.specs.Deck.{Deck, Interval, nonnegative}
-use Rattle.lp_model.specs.Instance.{bounds, column_count, instance_of, row_count}
-use Rattle.lp_model.specs.Simple.{IsSimple}
-use Rattle.lp_model.specs.Solution.{Prices, reduced}
-use Rattle.lp_model.specs.State.{basic, status_of}
-use Rattle.lp_model.specs.Step.{Eligible, Enters, IsLimit, Leaves, Limit, Moves, NotAfter, Pivoting, direction, distance_by, is_fixed, limit_at, own_limit}
-use Rattle.lp_model.specs.Tableau.{prices_of, table_column}
-use Rattle.lp_model.proofs.Regularity.{get-map-upto, tableau_column, tableau_prices, tableau_reduced}
-use Rattle.lp_model.proofs.Simple.{simple_row_count}
-use Rattle.lp_model.proofs.Unique.{basic_reduced}
+use Rattle.lp_run.specs.Instance.{bounds, column_count, instance_of, row_count}
+use Rattle.lp_run.specs.Simple.{IsSimple}
+use Rattle.lp_run.specs.Solution.{Prices, reduced}
+use Rattle.lp_run.specs.State.{basic, status_of}
+use Rattle.lp_run.specs.Step.{Eligible, Enters, IsLimit, Leaves, Limit, Improves, NotAfter, Pivoting, direction, distance_by, is_fixed, limit_at, own_limit}
+use Rattle.lp_run.specs.Tableau.{prices_of, table_column}
+use Rattle.rational.proofs.VectorLaws.{get-map-upto}
+use Rattle.lp_run.proofs.Regularity.{tableau_column, tableau_prices, tableau_reduced}
+use Rattle.lp_run.proofs.Simple.{simple_row_count}
+use Rattle.lp_run.proofs.Unique.{basic_reduced}
 use Rattle.simple_laws.specs.Plain.{IsEntering, IsLeaving, Plain, basic_in, cell, ratio_at}
 use Rattle.simple_laws.specs.Stands.{Stands, whole_costs, whole_table, width_of}
 use Rattle.simple_laws.proofs.Limits.{direction_up, rising_above, rising_limit, rising_limit_is, swap_limit}
@@ -68,8 +69,8 @@ module _ (d : Deck) (simple : IsSimple d) (log : List Entry) (t : Plain) (h : St
   pub not_eligible : (j : ℕ) → j < width_of d → zero_ℚ ≤ℚ at t.costs j → Eligible (instance_of d) h.state (prices_of (instance_of d) h.state (whole_table d t)) j → ⊥
   not_eligible j b nonneg e =
       falls (at t.costs j)
-      (subst (Moves status.Lower) (reduced_is j b)
-      (subst (λ s. Moves s (reduced (instance_of d) h.state (prices_of (instance_of d) h.state (whole_table d t)) j)) (h.others j (within_count d simple j b) apart) e.moves))
+      (subst (Improves status.Lower) (reduced_is j b)
+      (subst (λ s. Improves s (reduced (instance_of d) h.state (prices_of (instance_of d) h.state (whole_table d t)) j)) (h.others j (within_count d simple j b) apart) e.improves))
       nonneg
     where
       falls : (c : ℚ) → c <ℚ zero_ℚ → zero_ℚ ≤ℚ c → ⊥
@@ -77,8 +78,8 @@ module _ (d : Deck) (simple : IsSimple d) (log : List Entry) (t : Plain) (h : St
 
       apart : (p : ℕ) → p < length d.rows → basic_in t p ≢ j
       apart p c same =
-          subst (λ s. Moves s (reduced (instance_of d) h.state (prices_of (instance_of d) h.state (whole_table d t)) j))
-          (ap (status_of h.state) (sym same) ∙ h.basics p c) e.moves
+          subst (λ s. Improves s (reduced (instance_of d) h.state (prices_of (instance_of d) h.state (whole_table d t)) j))
+          (ap (status_of h.state) (sym same) ∙ h.basics p c) e.improves
 
 -- ── where column q enters ──
 
@@ -103,7 +104,7 @@ module _ (d : Deck) (simple : IsSimple d) (log : List Entry) (t : Plain) (h : St
     eligible = record {
       in_range = within_count d simple q entering_within;
       ends_differ = ap is_fixed (bounds_there d simple log t h q entering_within);
-      moves = subst (λ s. Moves s (reduced (instance_of d) h.state (prices_of (instance_of d) h.state (whole_table d t)) q)) (sym entering_status) reduced_below;
+      improves = subst (λ s. Improves s (reduced (instance_of d) h.state (prices_of (instance_of d) h.state (whole_table d t)) q)) (sym entering_status) reduced_below;
     };
     least = λ j b e. not_eligible d simple log t h j (omega (arith, entering_within)) (enters.least j b) e;
   }

@@ -4,21 +4,23 @@ use Rattle.std.proofs.lemmas.Bool.{cases_eq}
 use Rattle.std.proofs.lemmas.Int.{ints}
 use Rattle.lp_model.specs.declared.Entry.{Entry}
 use Rattle.rational.specs.Rational.{ℚ, zero_ℚ, one_ℚ, ◌+ℚ◌, ◌-ℚ◌, ◌*ℚ◌, neg_ℚ, ◌≤ℚ◌, ◌<ℚ◌}
-use Rattle.rational.specs.RationalRing.{ring_ℚ, *ℚ_assoc}
-use Rattle.rational.specs.Ring.{◌≐◌, ◌⊕◌, ◌⊖◌, ◌⊗◌, ⊝◌, 𝟘, 𝟙}
-use Rattle.rational.specs.Linear.{linear, ◌≼◌, ◌≺◌, ◌≐◌, ◌⟹◌, never}
+use Rattle.rational.proofs.RationalRing.{ring_ℚ, *ℚ_assoc}
+use Rattle.rational.proofs.Ring.{◌≐◌, ◌⊕◌, ◌⊖◌, ◌⊗◌, ⊝◌, 𝟘, 𝟙}
+use Rattle.rational.proofs.Linear.{linear, ◌≼◌, ◌≺◌, ◌≐◌, ◌⟹◌, never}
 use Rattle.rational.specs.Sum.{sum_ℚ, at}
-use Rattle.rational.proofs.SumLaws.{sum-cong, sum-exchange, sum-none, sum-scale, sum-scale_right, sum-single, sum-split}
+use Rattle.rational.proofs.SumLaws.{sum-cong, sum-exchange, sum-none, sum-scale, sum-scale_right, sum-single, sum-split, sum-unit, sum-unit_right}
 use Rattle.lp_model.specs.Certificate.{Proves, reduced_cost}
-use Rattle.lp_model.specs.Deck.{Deck, IsFeasible, Within, activity, activity_interval, activity_interval_of, column, entry, entry_at, row}
-use Rattle.lp_model.specs.Instance.{at_index, coefficient, coefficient_of, column_count, cost, cost_of, instance_of, row_count, structural_count}
-use Rattle.lp_model.specs.Outcome.{by_position}
-use Rattle.lp_model.specs.Simple.{IsSimple}
-use Rattle.lp_model.specs.Solution.{reduced}
-use Rattle.lp_model.specs.State.{rest}
-use Rattle.lp_model.proofs.Regularity.{at_index-other, at_index-same, get-map-upto, length-map-upto, sum-unit, sum-unit_right}
-use Rattle.lp_model.proofs.Simple.{simple_right, simple_row_count, simple_structural, simple_structural_count}
-use Rattle.lp_model.proofs.Start.{coefficient-logical, kind_of_structural}
+use Rattle.lp_model.specs.Deck.{Deck, IsFeasible, Within, activity, activity_interval, activity_interval_of, column, entry, in_sense, row}
+use Rattle.rational.specs.Sparse.{entry_at, at_index}
+use Rattle.lp_run.specs.Instance.{coefficient, kind_coefficient, column_count, cost, kind_cost, instance_of, row_count, structural_count}
+use Rattle.lp_run.specs.Ends.{by_position}
+use Rattle.lp_run.specs.Simple.{IsSimple}
+use Rattle.lp_run.specs.Solution.{reduced}
+use Rattle.lp_run.specs.State.{rest}
+use Rattle.rational.proofs.SparseLaws.{at_index-other, at_index-same}
+use Rattle.rational.proofs.VectorLaws.{get-map-upto, length-map-upto}
+use Rattle.lp_run.proofs.Simple.{simple_right, simple_row_count, simple_structural, simple_structural_count}
+use Rattle.lp_run.proofs.Start.{coefficient-logical, kind_of_structural}
 use Rattle.simple_laws.specs.Feasible.{IsFeasibleTable}
 use Rattle.simple_laws.specs.Plain.{NoneEnters, Plain, basic_in}
 use Rattle.simple_laws.specs.Stands.{Stands, point_of, prices_of, width_of}
@@ -160,13 +162,13 @@ module _ (d : Deck) (simple : IsSimple d) (log : List Entry) (t : Plain) (h : St
   column_there j b = subst (λ n. j < n) (sym (simple_structural_count d simple)) b
 
   entry_there : (i j : ℕ) → j < length d.columns → coefficient (instance_of d) i j ≡ entry d i j
-  entry_there i j b = ap (coefficient_of (instance_of d) i) (kind_of_structural (instance_of d) j (column_there j b)) ∙ ap (λ a. entry_at a.entries i) (simple_structural d simple j b)
+  entry_there i j b = ap (kind_coefficient (instance_of d) i) (kind_of_structural (instance_of d) j (column_there j b)) ∙ ap (λ a. entry_at a.entries i) (simple_structural d simple j b)
 
   logical_there : (i k : ℕ) → k < length d.rows → coefficient (instance_of d) i (length d.columns + k) ≡ at_index i k one_ℚ
   logical_there i k b = ap (λ n. coefficient (instance_of d) i (n + k)) (sym (simple_structural_count d simple)) ∙ coefficient-logical (instance_of d) i k (there k b)
 
   cost_there : (j : ℕ) → j < length d.columns → cost (instance_of d) h.state.phase j ≡ (column d j).cost
-  cost_there j b = ap₂ (cost_of (instance_of d)) h.phase (kind_of_structural (instance_of d) j (column_there j b)) ∙ ap (λ a. a.cost) (simple_structural d simple j b)
+  cost_there j b = ap₂ (kind_cost (instance_of d)) h.phase (kind_of_structural (instance_of d) j (column_there j b)) ∙ ap₂ in_sense simple.least (ap (λ a. a.cost) (simple_structural d simple j b))
 
   -- the reduced cost of a column of the deck is the table's
   reduced_there : (j : ℕ) → j < length d.columns → reduced_cost d (prices_of d t) j ≡ at t.costs j
@@ -261,10 +263,10 @@ module _ (d : Deck) (simple : IsSimple d) (log : List Entry) (t : Plain) (h : St
       point_proved = record {
         feasible = point_feasible;
         one_each = length-map-upto (λ i. neg_ℚ (at t.costs (length d.columns + i))) (length d.rows);
-        above = rests_low;
-        below = λ j b below. absurd (no_cost_below j b below);
-        price_above = λ i b above. absurd (no_price_above i b above);
-        price_below = row_tight;
+        above = λ j b above. rests_low j b (subst (λ s. zero_ℚ <ℚ in_sense s (reduced_cost d (prices_of d t) j)) simple.least above);
+        below = λ j b below. absurd (no_cost_below j b (subst (λ s. in_sense s (reduced_cost d (prices_of d t) j) <ℚ zero_ℚ) simple.least below));
+        price_above = λ i b above. absurd (no_price_above i b (subst (λ s. zero_ℚ <ℚ in_sense s (at (prices_of d t) i)) simple.least above));
+        price_below = λ i b below. row_tight i b (subst (λ s. in_sense s (at (prices_of d t) i) <ℚ zero_ℚ) simple.least below);
       }
 
 -- where no column enters a feasible table, its prices prove its point

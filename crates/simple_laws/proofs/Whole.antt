@@ -3,10 +3,10 @@ use Rattle.std.proofs.Common.{◌≡◌, ℕ, ◌+◌, ◌-◌, ◌<◌, ◌≤�
 use Rattle.std.proofs.lemmas.Bool.{cases_lt, le-ltb}
 use Rattle.lp_model.specs.declared.Phase.TheVariants.{Two}
 use Rattle.lp_model.specs.Deck.{Deck, nonnegative}
-use Rattle.lp_model.specs.Instance.{bounds, bounds_of, column_count, instance_of, row_count, structural_count}
-use Rattle.lp_model.specs.Simple.{IsSimple}
-use Rattle.lp_model.proofs.Simple.{simple_logical_bounds, simple_row_count, simple_structural, simple_structural_count}
-use Rattle.lp_model.proofs.Start.{each_column, kind_of_logical, kind_of_structural}
+use Rattle.lp_run.specs.Instance.{bounds, kind_bounds, column_count, instance_of, row_count, structural_count}
+use Rattle.lp_run.specs.Simple.{IsSimple}
+use Rattle.lp_run.proofs.Simple.{simple_logical_bounds, simple_row_count, simple_structural, simple_structural_count}
+use Rattle.lp_run.proofs.Start.{each_column, kind_of_logical, kind_of_structural}
 use Rattle.simple_laws.specs.Stands.{kept_column, width_of}
 
 -- a column of the plain table is itself
@@ -45,10 +45,10 @@ module _ (d : Deck) (simple : IsSimple d) where
   -- each column of the plain table runs from 0 up
   pub table_bounds : (j : ℕ) → j < width_of d → bounds (instance_of d) Two j ≡ nonnegative
   table_bounds j h = each_column (instance_of d) (λ j. j < width_of d → bounds (instance_of d) Two j ≡ nonnegative)
-      (λ j b w. ap (bounds_of (instance_of d) Two) (kind_of_structural (instance_of d) j b)
+      (λ j b w. ap (kind_bounds (instance_of d) Two) (kind_of_structural (instance_of d) j b)
       ∙ ap (λ c. c.bounds) (simple_structural d simple j (subst (λ n. j < n) (simple_structural_count d simple) b))
       ∙ simple.columns j (subst (λ n. j < n) (simple_structural_count d simple) b))
-      (λ i b w. ap (bounds_of (instance_of d) Two) (kind_of_logical (instance_of d) i b)
+      (λ i b w. ap (kind_bounds (instance_of d) Two) (kind_of_logical (instance_of d) i b)
       ∙ simple_logical_bounds d simple i (subst (λ m. i < m) (simple_row_count d simple) b))
       (λ i b w. absurd (past i w))
       j (within_count j h) h

@@ -2,7 +2,7 @@
 use Rattle.std.specs.Prelude.{◌≡◌, ◌≢◌, ℕ, ◌<◌, ◌≤◌, ◌⊎◌, List, [], length, get_or, set, ◌==◌, if◌then◌else◌}
 use Rattle.rational.specs.Rational.{ℚ, zero_ℚ, ◌-ℚ◌, ◌*ℚ◌, ◌/ℚ◌, ◌≤ℚ◌, ◌<ℚ◌}
 use Rattle.rational.specs.Sum.{at}
-use Rattle.lp_model.specs.Tableau.{pivoted, repriced}
+use Rattle.lp_run.specs.Tableau.{pivoted, repriced}
 
 pub record Plain : Type 0 where
   pub rows : List (List ℚ)

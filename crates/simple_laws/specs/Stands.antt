@@ -1,17 +1,20 @@
 -- A plain table at a state of the run of a simple deck.
-use Rattle.std.specs.Prelude.{◌≡◌, ◌≢◌, ℕ, ◌+◌, ◌-◌, ◌<◌, ◌⊎◌, List, map, length, nat_lt, if◌then◌else◌}
+use Rattle.std.specs.Prelude.{◌≡◌, ◌≢◌, ℕ, ◌+◌, ◌-◌, ◌<◌, ◌≤◌, ◌⊎◌, List, None, map, length, nat_lt, if◌then◌else◌}
 use Rattle.lp_model.specs.declared.Entry.{Entry}
 use Rattle.lp_model.specs.declared.Phase.TheVariants.{Two}
 use Rattle.lp_model.specs.declared.Status.TheVariants as status
 use Rattle.rational.specs.Rational.{ℚ, zero_ℚ, one_ℚ, ◌+ℚ◌, ◌*ℚ◌, neg_ℚ}
 use Rattle.rational.specs.Sum.{sum_ℚ, at}
 use Rattle.lp_model.specs.Deck.{Deck, column, entry, row}
-use Rattle.lp_model.specs.Instance.{at_index, column_count, instance_of, upto}
-use Rattle.lp_model.specs.Outcome.{by_position}
-use Rattle.lp_model.specs.Run.{IsRun}
-use Rattle.lp_model.specs.State.{State, status_of}
-use Rattle.lp_model.specs.Step.{EndsFree}
-use Rattle.lp_model.specs.Tableau.{IsTableau}
+use Rattle.rational.specs.Sparse.{at_index, upto}
+use Rattle.lp_run.specs.Instance.{Instance, column_count, instance_of}
+use Rattle.lp_run.specs.Listing.{Listed, StepLists, first_unfit}
+use Rattle.lp_run.specs.Ends.{by_position}
+use Rattle.lp_model.specs.Log.{moves}
+use Rattle.lp_run.specs.Run.{IsRun}
+use Rattle.lp_run.specs.State.{State, status_of}
+use Rattle.lp_run.specs.Step.{EndsFree}
+use Rattle.lp_run.specs.Tableau.{IsTableau}
 use Rattle.simple_laws.specs.Plain.{IsSized, Plain, basic_in, cell}
 
 -- how many columns a plain table of the deck has: the deck's own, and the logicals
@@ -74,6 +77,10 @@ pub record IsOfObjective (d : Deck) (x : List ℚ) (v : ℚ) : Type 0 where
   pub left : (column d index).cost ≢ zero_ℚ
   pub right : at x index ≢ zero_ℚ
   pub value : (v ≡ (column d index).cost *ℚ at x index) ⊎ (v ≡ partial_objective d x (index + 1))
+
+-- some value that is listed at a state of the run, after at most the budget's moves, does not fit the width
+abbrev pub MeetsUnfit : ℕ → ℕ → Instance → Type 0
+MeetsUnfit w budget inst = (log : List Entry) × (s : State) × (vs : List Listed) × IsRun inst log s × (moves log ≤ budget) × StepLists inst (length log) s vs × (first_unfit w vs ≢ None)
 
 -- the deck's run ends at a step without a limit
 abbrev pub IsEndless : Deck → Type 0

@@ -4,7 +4,7 @@ use Rattle.std.specs.Option.{unwrap_or}
 use Rattle.std.proofs.Math.ListN.{get_or-append}
 use Rattle.std.proofs.Math.Seq.{get_or-append_seam}
 use Rattle.rational.specs.Rational.{ℚ, zero_ℚ}
-use Rattle.lp_model.specs.Deck.{entry_at}
+use Rattle.rational.specs.Sparse.{entry_at}
 use Rattle.sparse_cols.specs.Sparse.{value_at}
 
 -- a list that has the items of a function grows by its next item

@@ -2,9 +2,9 @@
 use Rattle.std.proofs.Common.{◌≡◌, ◌≢◌, ℕ, suc, zero, ◌<◌, List, [], ◌∷◌, map, length, get_or, refl, sym, ◌∙◌, ap, cond, eq-eqb, ne_eqb, arith}
 use Rattle.rational.specs.Rational.{ℚ, zero_ℚ}
 use Rattle.rational.specs.Sum.{at}
-use Rattle.lp_model.specs.Instance.{upto}
-use Rattle.lp_model.specs.Outcome.{by_position}
-use Rattle.lp_model.proofs.Regularity.{get-map-upto, length-map-upto, same_vectors}
+use Rattle.rational.specs.Sparse.{upto}
+use Rattle.lp_run.specs.Ends.{by_position}
+use Rattle.rational.proofs.VectorLaws.{get-map-upto, length-map-upto, same_vectors}
 
 pub value_none : (basis : List ℕ) (values : List ℚ) (j : ℕ) (v : ℚ) → ((p : ℕ) → p < length basis → get_or basis p 0 ≢ j) → by_position basis values j v ≡ v
 value_none [] values j v apart = refl

@@ -3,9 +3,10 @@ use Rattle.std.proofs.Common.{◌≡◌, ◌≢◌, ℕ, suc, ◌+◌, ◌<◌, 
 use Rattle.std.specs.Prelude.{IfErr, IsTrue, Result}
 use Rattle.exact_frac.specs.Exact.{Exact}
 use Rattle.exact_frac.specs.declared.unfit.Unfit.{Unfit}
-use Rattle.rational.specs.Rational.{ℚ, FitsWidth, zero_ℚ, ◌+ℚ◌, ◌*ℚ◌}
-use Rattle.rational.specs.RationalRing.{ring_ℚ}
-use Rattle.rational.specs.Ring.{◌≐◌, ◌⊕◌, ◌⊗◌, 𝟘}
+use Rattle.rational.specs.Rational.{ℚ, zero_ℚ, ◌+ℚ◌, ◌*ℚ◌}
+use Rattle.rational.specs.Width.{FitsWidth}
+use Rattle.rational.proofs.RationalRing.{ring_ℚ}
+use Rattle.rational.proofs.Ring.{◌≐◌, ◌⊕◌, ◌⊗◌, 𝟘}
 use Rattle.rational.specs.Sum.{sum_ℚ, at}
 use Rattle.lp_model.specs.Deck.{Deck, column}
 use Rattle.simple_laws.specs.Stands.{IsOfObjective, partial_objective}

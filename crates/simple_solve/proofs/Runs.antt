@@ -4,26 +4,28 @@ use Rattle.std.proofs.lemmas.Int.{ints}
 use Rattle.std.proofs.lemmas.List.Sums.{sum_by-append}
 use Rattle.std.specs.Prelude.{IfErr, IfOk, Result}
 use Rattle.rational.specs.Rational.{ℚ, zero_ℚ, neg_ℚ, ◌≤ℚ◌, ◌<ℚ◌}
-use Rattle.rational.specs.Ring.{𝟘}
-use Rattle.rational.specs.Linear.{linear, ◌≼◌, ◌≺◌, ◌⟹◌, never}
+use Rattle.rational.proofs.Ring.{𝟘}
+use Rattle.rational.proofs.Linear.{linear, ◌≼◌, ◌≺◌, ◌⟹◌, never}
 use Rattle.rational.specs.Sum.{at}
 use Rattle.deck_model.specs.declared.outcome.Outcome.{Outcome as Answer}
 use Rattle.deck_model.specs.Outcome.{HasLengthsOf, outcome_of}
-use Rattle.lp_model.proofs.Regularity.{length-map-upto}
+use Rattle.rational.proofs.VectorLaws.{length-map-upto}
 use Rattle.lp_model.specs.declared.Entry.{Entry}
 use Rattle.lp_model.specs.declared.Entry.TheVariants.{Swap}
 use Rattle.lp_model.specs.declared.Side.TheVariants as side
 use Rattle.lp_model.specs.Certificate.{Proves}
 use Rattle.lp_model.specs.Deck.{Deck}
-use Rattle.lp_model.specs.Instance.{instance_of}
-use Rattle.lp_model.specs.Outcome.{Outcome, by_position}
-use Rattle.lp_model.specs.Run.{IsSpent, is_move, moves}
-use Rattle.lp_model.specs.Simple.{IsSimple}
+use Rattle.lp_run.specs.Instance.{instance_of}
+use Rattle.lp_model.specs.Outcome.{Outcome}
+use Rattle.lp_run.specs.Ends.{by_position}
+use Rattle.lp_model.specs.Log.{is_move, moves}
+use Rattle.lp_run.specs.Run.{IsSpent}
+use Rattle.lp_run.specs.Simple.{IsSimple}
 use Rattle.simple_laws.specs.Plain.{Plain}
 use Rattle.simple_laws.specs.Stands.{IsMadeOf, partial_objective, point_of, prices_of}
 use Rattle.simple_laws.proofs.Feasible.{feasible_after, feasible_at_start}
 use Rattle.simple_laws.proofs.Proved.{proves_itself}
-use Rattle.lp_laws.proofs.Weak.{weak}
+use Rattle.lp_laws.proofs.WeakDuality.{weak}
 use Rattle.simple_laws.proofs.Endless.{endless, spent}
 use Rattle.simple_laws.proofs.Made.{stands_at_start}
 use Rattle.simple_laws.proofs.Moved.{moved}
@@ -31,7 +33,7 @@ use Rattle.simple_laws.proofs.Optimum.{optimum}
 use Rattle.simple_laws.proofs.Unfit.{pivot_unfit, ratio_unfit, total_unfit}
 use Rattle.simple_solve.specs.declared.run.SolveFault.{SolveFault}
 use Rattle.simple_solve.specs.declared.run.SolveFault.TheVariants as fault
-use Rattle.simple_solve.specs.Solved.{FailsBy, IsAnswerFault, IsFaultCause, IsLastStop, IsStep, IsStop, MeetsUnfit, RestsWithin, ShowsOptimum, StandsAfter, answer_of}
+use Rattle.simple_solve.specs.Solved.{FailsBy, IsAnswerFault, IsFaultCause, IsLastStop, IsStep, IsStop, HasUnfitNext, RestsWithin, ShowsOptimum, StandsAfter, answer_of}
 
 one_move : (log : List Entry) (q p : ℕ) → moves (log ++ Swap q p side.Lower ∷ []) ≡ moves log + 1
 one_move log q p = sum_by-append (λ e. cond (is_move e) 1 0) log (Swap q p side.Lower ∷ [])
@@ -48,7 +50,7 @@ step_stands d n t t' before (q, p, r, enters, leaves, pivoted) = λ simple.
       feasible_after d simple at_t.0 t at_t.2 at_t.3 q p r enters leaves t' pivoted,
     )
 
-unfit_cause : (w : ℕ) (d : Deck) (simple : IsSimple d) (n budget : ℕ) (t : Plain) → StandsAfter d n t → n ≤ budget → MeetsUnfit w t → IsFaultCause w d budget fault.Unfit
+unfit_cause : (w : ℕ) (d : Deck) (simple : IsSimple d) (n budget : ℕ) (t : Plain) → StandsAfter d n t → n ≤ budget → HasUnfitNext w t → IsFaultCause w d budget fault.Unfit
 unfit_cause w d simple n budget t stands within (inl (q, enters, unfit)) =
     let at_t = stands simple in
     ratio_unfit d simple at_t.0 t at_t.2 q enters w unfit.0 unfit.1 unfit.2 budget (omega (arith, at_t.1))

@@ -4,7 +4,7 @@ use Rattle.std.proofs.lemmas.Bool.{le-ltb}
 use Rattle.rational.specs.Rational.{zero_ℚ, one_ℚ}
 use Rattle.rational.specs.Sum.{at}
 use Rattle.lp_model.specs.Deck.{Deck, column, entry, row as deck_row}
-use Rattle.lp_model.specs.Instance.{at_index}
+use Rattle.rational.specs.Sparse.{at_index}
 use Rattle.simple_laws.specs.Plain.{IsSized, Plain}
 use Rattle.simple_laws.specs.Stands.{IsMadeOf, width_of}
 use Rattle.simple_solve.specs.Start.{IsStartRow, start_cost, start_item}

@@ -1,17 +1,19 @@
 -- What a solve answers.
 use Rattle.std.specs.Prelude.{◌≡◌, ◌≢◌, ◌⊎◌, ℕ, ◌≤◌, List, length, Bool, true, false}
-use Rattle.rational.specs.Rational.{ℚ, FitsWidth, ◌+ℚ◌, ◌*ℚ◌, zero_ℚ}
+use Rattle.rational.specs.Rational.{ℚ, ◌+ℚ◌, ◌*ℚ◌, zero_ℚ}
+use Rattle.rational.specs.Width.{FitsWidth}
 use Rattle.lp_model.specs.declared.Entry.{Entry}
 use Rattle.lp_model.specs.Deck.{Deck, IsOptimal}
 use Rattle.lp_model.specs.Certificate.{Proves}
-use Rattle.lp_model.specs.Instance.{instance_of}
-use Rattle.lp_model.specs.Listing.{RunMeetsUnfit}
-use Rattle.lp_model.specs.Outcome.{HasOutcome, Outcome, optimal}
-use Rattle.lp_model.specs.Run.{IsSpent, moves}
-use Rattle.lp_model.specs.Simple.{IsSimple}
+use Rattle.lp_run.specs.Instance.{instance_of}
+use Rattle.lp_run.specs.Ends.{HasOutcome}
+use Rattle.lp_model.specs.Outcome.{Outcome, optimal}
+use Rattle.lp_model.specs.Log.{moves}
+use Rattle.lp_run.specs.Run.{IsSpent}
+use Rattle.lp_run.specs.Simple.{IsSimple}
 use Rattle.simple_laws.specs.Feasible.{IsFeasibleTable}
 use Rattle.simple_laws.specs.Plain.{IsEntering, IsLeaving, IsPivoted, NoneEnters, NoneLeaves, Plain}
-use Rattle.simple_laws.specs.Stands.{IsEndless, IsOfObjective, Stands, partial_objective, point_of, prices_of}
+use Rattle.simple_laws.specs.Stands.{IsEndless, IsOfObjective, MeetsUnfit, Stands, partial_objective, point_of, prices_of}
 use Rattle.simple_table.specs.Limits.{HasUnfitRatio}
 use Rattle.simple_table.specs.Parts.{HasUnfitMove}
 use Rattle.simple_solve.specs.declared.run.Next.{Next}
@@ -33,7 +35,7 @@ ShowsOptimum d budget o = (log : List Entry) × (x y : List ℚ) × (v : ℚ) ×
 -- why a run has no optimum to show; w is the width of the arithmetic
 abbrev pub IsFaultCause : ℕ → Deck → ℕ → SolveFault → Type 0
 IsFaultCause w d budget fault.Memory = Unit {0}
-IsFaultCause w d budget fault.Unfit = RunMeetsUnfit w budget (instance_of d)
+IsFaultCause w d budget fault.Unfit = MeetsUnfit w budget (instance_of d)
 IsFaultCause w d budget fault.Spent = IsSpent (instance_of d) budget
 IsFaultCause w d budget fault.Endless = IsEndless d
 
@@ -55,8 +57,8 @@ IsNextOf t next.Free = (q : ℕ) × IsEntering t q × NoneLeaves t q
 IsNextOf t (next.Swap q leaving) = IsEntering t q × IsLeaving t q leaving.position leaving.ratio
 
 -- a value that is worked for the next move does not fit
-abbrev pub MeetsUnfit : ℕ → Plain → Type 0
-MeetsUnfit w t =
+abbrev pub HasUnfitNext : ℕ → Plain → Type 0
+HasUnfitNext w t =
     ((q : ℕ) × IsEntering t q × HasUnfitRatio w t q)
     ⊎ ((q p : ℕ) × (r : ℚ) × IsEntering t q × IsLeaving t q p r × HasUnfitMove w t p q r)
 
@@ -68,14 +70,14 @@ IsStep t t' false = NoneEnters t × (t' ≡ t)
 -- why no move was made at a table where a column enters
 abbrev pub IsStop : ℕ → Plain → SolveFault → Type 0
 IsStop w t fault.Memory = ⊥
-IsStop w t fault.Unfit = MeetsUnfit w t
+IsStop w t fault.Unfit = HasUnfitNext w t
 IsStop w t fault.Spent = ⊥
 IsStop w t fault.Endless = (q : ℕ) × IsEntering t q × NoneLeaves t q
 
 -- why a run does not rest at a table with which its budget is spent
 abbrev pub IsLastStop : ℕ → Plain → SolveFault → Type 0
 IsLastStop w t fault.Memory = ⊥
-IsLastStop w t fault.Unfit = MeetsUnfit w t
+IsLastStop w t fault.Unfit = HasUnfitNext w t
 IsLastStop w t fault.Spent = (q p : ℕ) × (r : ℚ) × IsEntering t q × IsLeaving t q p r
 IsLastStop w t fault.Endless = (q : ℕ) × IsEntering t q × NoneLeaves t q
 

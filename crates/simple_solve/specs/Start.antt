@@ -3,7 +3,7 @@ use Rattle.std.specs.Prelude.{◌≡◌, ℕ, ◌-◌, ◌<◌, List, length, na
 use Rattle.rational.specs.Rational.{ℚ, zero_ℚ, one_ℚ}
 use Rattle.rational.specs.Sum.{at}
 use Rattle.lp_model.specs.Deck.{Deck, column, entry}
-use Rattle.lp_model.specs.Instance.{at_index}
+use Rattle.rational.specs.Sparse.{at_index}
 use Rattle.simple_laws.specs.Stands.{width_of}
 
 -- the entry of position p and column k: the deck's, and behind them the logicals

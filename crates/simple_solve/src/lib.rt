@@ -20,6 +20,3 @@ mod run;
 mod start;
 
 pub use run::{SolveFault, solve};
-
-#[cfg(test)]
-mod tests;

@@ -1,6 +1,7 @@
 // The objective at a point.
 ghost use Rattle.std.specs.Prelude.{◌≡◌, length, IfOk, IfErr};
-ghost use Rattle.rational.specs.Rational.{ℚ, FitsWidth, ◌+ℚ◌, ◌*ℚ◌};
+ghost use Rattle.rational.specs.Rational.{ℚ, ◌+ℚ◌, ◌*ℚ◌};
+ghost use Rattle.rational.specs.Width.{FitsWidth};
 ghost use Rattle.simple_laws.specs.Stands.{IsOfObjective, partial_objective};
 ghost use Rattle.simple_solve.specs.Solved.{IsUnfitOf};
 

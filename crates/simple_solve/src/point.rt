@@ -2,7 +2,7 @@
 ghost use Rattle.std.specs.Prelude.{◌≡◌, ◌<◌, ℕ, length, IfOk};
 ghost use Rattle.rational.specs.Rational.{zero_ℚ};
 ghost use Rattle.rational.specs.Sum.{at};
-ghost use Rattle.lp_model.specs.Outcome.{by_position};
+ghost use Rattle.lp_run.specs.Ends.{by_position};
 ghost use Rattle.simple_laws.specs.Stands.{point_of, prices_of, width_of};
 
 use deck_model::Deck;

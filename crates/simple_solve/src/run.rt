@@ -1,11 +1,12 @@
 // The run of a simple deck.
 ghost use Rattle.std.specs.Prelude.{◌≡◌, ◌≤◌, ◌<◌, length, IfOk, IfErr, OnOk};
-ghost use Rattle.rational.specs.Rational.{ℚ, FitsWidth};
-ghost use Rattle.lp_model.specs.Simple.{IsSimple};
+ghost use Rattle.rational.specs.Rational.{ℚ};
+ghost use Rattle.rational.specs.Width.{FitsWidth};
+ghost use Rattle.lp_run.specs.Simple.{IsSimple};
 ghost use Rattle.deck_model.specs.Outcome.{HasLengthsOf, outcome_of};
 ghost use Rattle.simple_laws.specs.Plain.{NoneEnters};
 ghost use Rattle.simple_laws.specs.Stands.{width_of};
-ghost use Rattle.simple_solve.specs.Solved.{FailsBy, IsAnswerFault, IsFaultCause, IsLastStop, IsNextOf, IsStep, IsStop, MeetsUnfit, RestsWithin, ShowsOptimum, answer_of};
+ghost use Rattle.simple_solve.specs.Solved.{FailsBy, IsAnswerFault, IsFaultCause, IsLastStop, IsNextOf, IsStep, IsStop, HasUnfitNext, RestsWithin, ShowsOptimum, answer_of};
 
 use crate::objective::objective;
 use crate::point::{point, prices};
@@ -47,7 +48,7 @@ enum Next {
 /// What comes next.
 fn next_move<A: Arith>(table: &Table, arith: &mut A) -> Result<Next, Unfit>
     ensures next { IfOk result (IsNextOf table.now) }
-    ensures unfit { IfErr result (λ _. MeetsUnfit (A.width arith.old) table.now) }
+    ensures unfit { IfErr result (λ _. HasUnfitNext (A.width arith.old) table.now) }
     ensures same_width { A.width arith.new ≡ A.width arith.old }
 {
     let Some(q) = table.entering() else {

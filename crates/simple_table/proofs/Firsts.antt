@@ -2,10 +2,11 @@
 use Rattle.std.proofs.Common.{◌≡◌, ◌≢◌, ℕ, ◌+◌, ◌<◌, ◌≤◌, inl, inr, ⊎_elim, List, length, Option, Some, None, MatchOption, Result, OnErr, refl, sym, ◌∙◌, ap₂, subst, arith}
 use Rattle.std.proofs.lemmas.Int.{ints}
 use Rattle.std.proofs.lemmas.Bool.{cases_lt}
-use Rattle.rational.specs.Rational.{ℚ, zero_ℚ, ◌≤ℚ◌, ◌<ℚ◌, ◌/ℚ◌, FitsWidth}
+use Rattle.rational.specs.Rational.{ℚ, zero_ℚ, ◌≤ℚ◌, ◌<ℚ◌, ◌/ℚ◌}
+use Rattle.rational.specs.Width.{FitsWidth}
 use Rattle.rational.specs.Sum.{at}
-use Rattle.rational.specs.Linear.{linear, ◌≼◌, ◌≺◌, ◌≐◌, ◌⟹◌, never}
-use Rattle.rational.specs.Ring.{𝟘}
+use Rattle.rational.proofs.Linear.{linear, ◌≼◌, ◌≺◌, ◌≐◌, ◌⟹◌, never}
+use Rattle.rational.proofs.Ring.{𝟘}
 use Rattle.simple_laws.specs.Plain.{Plain, basic_in, cell, ratio_at}
 use Rattle.simple_table.specs.declared.ratio.Leaving.{Leaving}
 use Rattle.exact_frac.specs.declared.unfit.Unfit.{Unfit}

@@ -4,7 +4,7 @@ use Rattle.std.specs.declared.cmp.Ordering.TheVariants.{Less, Equal, Greater}
 use Rattle.std.specs.Ordering.{MatchOrdering}
 use Rattle.std.proofs.lemmas.Bool.Decides.{nat_tests}
 use Rattle.rational.specs.Rational.{ℚ, ◌<ℚ◌, cmp_ℚ}
-use Rattle.exact_frac.specs.Order.{cmp_ℚ_ranks}
+use Rattle.rational.proofs.OrderLaws.{cmp_ℚ_ranks}
 use Rattle.simple_table.specs.Limits.{Precedes}
 
 cmp_less : (a b : ℚ) → cmp_ℚ a b ≡ Less → a <ℚ b

@@ -2,9 +2,10 @@
 use Rattle.std.proofs.Common.{◌≡◌, ◌≢◌, ℕ, ◌<◌, List, length, get_or, Bool, true, false, IsTrue, ◌↔◌, Result, Ok, Err, OnErr, inl, inr, ◌∙◌, subst, refl}
 use Rattle.std.proofs.lemmas.List.{get_or_default}
 use Rattle.rational.specs.Sum.{at}
-use Rattle.rational.specs.Rational.{ℚ, zero_ℚ, ◌-ℚ◌, ◌*ℚ◌, FitsWidth}
-use Rattle.rational.specs.RationalRing.{ring_ℚ}
-use Rattle.rational.specs.Ring.{◌≐◌, ◌⊖◌, ◌⊗◌, ◌⊙◌≗◌⟹◌, 𝟘}
+use Rattle.rational.specs.Rational.{ℚ, zero_ℚ, ◌-ℚ◌, ◌*ℚ◌}
+use Rattle.rational.specs.Width.{FitsWidth}
+use Rattle.rational.proofs.RationalRing.{ring_ℚ}
+use Rattle.rational.proofs.Ring.{◌≐◌, ◌⊖◌, ◌⊗◌, ◌⊙◌≗◌⟹◌, 𝟘}
 use Rattle.exact_frac.specs.declared.unfit.Unfit.{Unfit}
 use Rattle.exact_frac.specs.Exact.{Exact}
 use Rattle.simple_table.specs.Rows.{HasUnfitRest, IsUnfitRest}

@@ -1,10 +1,11 @@
 -- The sign of a fraction, against 0.
 use Rattle.std.proofs.Common.{suc, zero, ℤ, pos, negsuc, ◌≤ℤ◌, ◌<ℤ◌, arith}
 use Rattle.std.proofs.lemmas.Int.{ints}
-use Rattle.rational.specs.Rational.{ℚ, zero_ℚ, positive, ◌≤ℚ◌, ◌<ℚ◌}
-use Rattle.rational.specs.RationalRing.Parts.{IsOver, over_parts, over_same, over-zero}
-use Rattle.rational.specs.Ring.{ring_ℤ, ◌≐◌, ◌⊗◌, 𝟘, 𝟙}
-use Rattle.rational.specs.Linear.Transfer.{le_to, lt_to}
+use Rattle.rational.specs.Rational.{ℚ, zero_ℚ, ◌≤ℚ◌, ◌<ℚ◌}
+use Rattle.rational.proofs.Ratio.{positive}
+use Rattle.rational.proofs.RationalRing.Parts.{IsOver, over_parts, over_same, over-zero}
+use Rattle.rational.proofs.Ring.{ring_ℤ, ◌≐◌, ◌⊗◌, 𝟘, 𝟙}
+use Rattle.rational.proofs.Linear.Transfer.{le_to, lt_to}
 use Rattle.std.specs.Int.{int_signum}
 use Rattle.exact_frac.specs.Parts.{sign_of}
 

@@ -1,6 +1,7 @@
 -- The position that limits the rise of a column first, among the first so many positions.
 use Rattle.std.specs.Prelude.{◌≡◌, ℕ, ◌<◌, ◌≤◌, ◌⊎◌, List, [], length, get_or, Option, MatchOption}
-use Rattle.rational.specs.Rational.{ℚ, zero_ℚ, ◌≤ℚ◌, ◌<ℚ◌, FitsWidth}
+use Rattle.rational.specs.Rational.{ℚ, zero_ℚ, ◌≤ℚ◌, ◌<ℚ◌}
+use Rattle.rational.specs.Width.{FitsWidth}
 use Rattle.simple_laws.specs.Plain.{Plain, IsLeaving, IsRatio, NoneLeaves, basic_in, cell, ratio_at}
 use Rattle.simple_table.specs.declared.ratio.Leaving.{Leaving}
 

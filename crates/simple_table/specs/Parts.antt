@@ -1,6 +1,7 @@
 -- A plain table in its parts, and where a move meets a value that does not fit.
 use Rattle.std.specs.Prelude.{◌≡◌, ℕ, List, length, set}
-use Rattle.rational.specs.Rational.{ℚ, FitsWidth}
+use Rattle.rational.specs.Rational.{ℚ}
+use Rattle.rational.specs.Width.{FitsWidth}
 use Rattle.simple_laws.specs.Plain.{IsOfPivot, IsPivoted, Plain}
 use Rattle.simple_table.specs.Moves.{AreWide}
 

@@ -1,6 +1,7 @@
 -- What the steps on rows make, and where they meet a value that does not fit.
 use Rattle.std.specs.Prelude.{◌≡◌, ℕ, ◌<◌, List, length}
-use Rattle.rational.specs.Rational.{ℚ, FitsWidth, ◌-ℚ◌, ◌*ℚ◌, ◌/ℚ◌}
+use Rattle.rational.specs.Rational.{ℚ, ◌-ℚ◌, ◌*ℚ◌, ◌/ℚ◌}
+use Rattle.rational.specs.Width.{FitsWidth}
 use Rattle.rational.specs.Sum.{at}
 use Rattle.simple_laws.specs.Plain.{IsWorkedOf}
 

@@ -20,8 +20,6 @@ mod ratio;
 mod row;
 mod sign;
 mod table;
-#[cfg(test)]
-mod tests;
 
 pub use no_memory::Memory;
 pub use ratio::Leaving;

@@ -47,7 +47,7 @@ fn earlier(best: Option<Leaving>, next: Leaving, basis: &[usize]) -> Leaving
 }
 
 /// The position that limits the rise of column `q` first, if any does.
-#[tactic(auto, using(crate::proofs::Firsts::above_apart))]
+#[tactic(auto, using(rational::proofs::OrderLaws::above_apart))]
 pub fn first_limit<A: Arith>(
     values: &[Frac],
     rows: &[Row],

@@ -15,7 +15,8 @@ pub struct Row {
 
 impl Model for Row {
     ghost use Rattle.std.specs.Prelude.{List};
-    ghost use Rattle.rational.specs.Rational.{ℚ, code_ℚ};
+    ghost use Rattle.rational.specs.Rational.{ℚ};
+    ghost use Rattle.rational.proofs.Stored.{code_ℚ};
     ghost use Rattle.std.specs.Coded.{coded_list};
 
     ghost Value = { List ℚ };

@@ -24,8 +24,9 @@ module _ {V : Type 0} where
     pub twice : 2 ≤ row_count i pairs
     pub least : (j : ℕ) → j < i → row_count j pairs ≤ 1
 
-  -- a refusal for a row has that row, and a row that stands twice is named where all rows are in range
+  -- a refusal for a row has that row, and a row that stands twice is named where all rows are in range; no refusal
+  -- is for want of memory
   abbrev pub IsFault : ℕ → List (ℕ × V) → SparseFault → Type 0
-  IsFault len pairs Memory = Unit {0}
+  IsFault len pairs Memory = ⊥
   IsFault len pairs (Range i) = first_beyond len pairs ≡ Some i
   IsFault len pairs (Repeated i) = (first_beyond len pairs ≡ None) × IsLeastRepeated pairs i

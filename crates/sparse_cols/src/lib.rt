@@ -10,8 +10,8 @@
 //! column of a list of pairs, or names what is at fault with it (`IsFault` in `specs/Fault.antt`): the
 //! first row out of range, or else the least row that stands twice. Of a work row, `set` and `at` write and
 //! read one row, `scatter` stores a column's values over it, `gather` makes the column of its values
-//! (`gathered`), and `clear` takes all values out. A refusal leaves the column as it was, and `remove` and
-//! all calls of a work row but `new` and `gather` take no memory.
+//! (`gathered`), and `clear` takes all values out. A refusal leaves the column as it was. `from_pairs`, `remove`
+//! and all calls of a work row but `new` and `gather` take no memory.
 //!
 //! **Method.** A row is found by binary search. A list of pairs is sorted by row, so that a row that stands
 //! twice has its pairs side by side. A work row keeps the list of the rows that have a value, with room for
@@ -65,7 +65,7 @@ impl<V: Copy> SparseCol<V> {
     }
 
     /// The column of `len` rows with these pairs, in any order. It refuses a row that is not below `len`,
-    /// and then one that stands twice.
+    /// and then one that stands twice, and takes no memory.
     pub fn from_pairs(len: usize, mut pairs: Vec<(usize, V)>) -> Result<SparseCol<V>, SparseFault>
         ensures rising { IfOk result (λ column. IsRising len 0 column.pairs) }
         ensures same_pairs { IfOk result
@@ -75,11 +75,21 @@ impl<V: Copy> SparseCol<V> {
         if let Some(i) = first_beyond(&pairs, len) {
             return Err(SparseFault::Range(i));
         }
-        pairs.sort_by_key(|pair| pair.0)?;
+        pairs.sort_unstable_by_key(|pair| pair.0);
         match first_repeated(&pairs) {
             Some(i) => Err(SparseFault::Repeated(i)),
             None => Ok(SparseCol { len, pairs }),
         }
+    }
+
+    /// A copy of the column.
+    pub fn copy(&self) -> Result<SparseCol<V>, Memory>
+        ensures { IfOk result (λ column. column ≡ self.now) }
+    {
+        Ok(SparseCol {
+            len: self.len,
+            pairs: Vec::from_slice(*self.pairs.allocator(), &self.pairs)?,
+        })
     }
 
     /// How many pairs are stored.
@@ -93,7 +103,8 @@ impl<V: Copy> SparseCol<V> {
     /// The pair of row and value at place `k`, in rising rows.
     pub fn pair(&self, k: usize) -> (usize, V)
         requires { k < length self.now.pairs }
-        ensures { slice_get self.now.pairs k ≡ Some result }
+        ensures value { slice_get self.now.pairs k ≡ Some result }
+        ensures row { result.0 < self.now.length }
     {
         self.pairs[k]
     }
@@ -163,73 +174,4 @@ fn first_repeated<V: Copy>(pairs: &[(usize, V)]) -> Option<usize>
         }
     }
     None
-}
-
-#[cfg(test)]
-mod tests {
-    use super::*;
-    use std::test::Fail;
-
-    #[test]
-    fn pairs_come_in_any_order(rt: HostRuntime) -> Result<(), Fail> {
-        let pairs = vec![in rt.alloc(); (5, 50), (0, 7), (2, 20)]?;
-        let column = SparseCol::from_pairs(6, pairs)?;
-        assert_eq!(rt; column.count(), 3);
-        assert_eq!(rt; column.pair(0), (0, 7));
-        assert_eq!(rt; column.pair(1), (2, 20));
-        assert_eq!(rt; column.pair(2), (5, 50));
-        assert_eq!(rt; column.get(2), Some(20));
-        assert_eq!(rt; column.get(3), None);
-        Ok(())
-    }
-
-    #[test]
-    fn faults_come_in_order(rt: HostRuntime) -> Result<(), Fail> {
-        let alloc = rt.alloc();
-        let pairs = vec![in alloc; (3, 1), (9, 1), (3, 1), (8, 1)]?;
-        let beyond = SparseCol::from_pairs(8, pairs).err();
-        assert_eq!(rt; beyond, Some(SparseFault::Range(9)));
-        let pairs = vec![in alloc; (6, 1), (3, 2), (6, 3), (3, 4)]?;
-        let twice = SparseCol::from_pairs(8, pairs).err();
-        assert_eq!(rt; twice, Some(SparseFault::Repeated(3)));
-        let text = format!(in alloc; "{}; {}", SparseFault::Range(9), SparseFault::Repeated(3))?;
-        assert_eq!(rt; text.as_str(), "row 9 is out of range; row 3 stands twice");
-        Ok(())
-    }
-
-    #[test]
-    fn a_pair_goes_in_and_out(rt: HostRuntime) -> Result<(), Fail> {
-        let mut column = SparseCol::empty(rt.alloc(), 4);
-        column.insert(2, 20)?;
-        assert!(rt; column.get(1).is_none());
-        column.insert(1, 10)?;
-        assert_eq!(rt; column.count(), 2);
-        assert_eq!(rt; column.pair(0), (1, 10));
-        assert_eq!(rt; column.remove(1), Some(10));
-        assert_eq!(rt; column.remove(1), None);
-        assert_eq!(rt; column.get(2), Some(20));
-        assert_eq!(rt; column.count(), 1);
-        Ok(())
-    }
-
-    #[test]
-    fn a_work_row_is_filled_and_cleared(rt: HostRuntime) -> Result<(), Fail> {
-        let alloc = rt.alloc();
-        let column = SparseCol::from_pairs(4, vec![in alloc; (3, 30), (1, 10)]?)?;
-        let mut work = Work::new(alloc, 4)?;
-        work.set(0, 5);
-        work.set(1, 6);
-        work.scatter(&column);
-        assert_eq!(rt; work.at(1), Some(10));
-        assert_eq!(rt; work.at(2), None);
-        let gathered = work.gather()?;
-        assert_eq!(rt; gathered.count(), 3);
-        assert_eq!(rt; gathered.pair(0), (0, 5));
-        assert_eq!(rt; gathered.pair(1), (1, 10));
-        assert_eq!(rt; gathered.pair(2), (3, 30));
-        work.clear();
-        assert_eq!(rt; work.at(1), None);
-        assert_eq!(rt; work.gather()?.count(), 0);
-        Ok(())
-    }
 }

@@ -55,32 +55,3 @@ impl<L: Ledger> Steps<L> {
         self.book.add(&mut self.share, 1);
     }
 }
-
-#[cfg(test)]
-mod tests {
-    use super::*;
-    use std::marker::Brand;
-
-    fn tick_twice<L: Ledger>(steps: &mut Steps<L>)
-        ensures { steps.new ≡ steps.old + 2 }
-    {
-        steps.tick();
-        steps.tick();
-    }
-
-    // Returns the bytes that its counter takes.
-    fn tick_uncounted<L: Ledger>(blank: Blank) -> usize
-        requires name { blank.name ≡ L.name }
-        requires parts { blank.parts ≡ L.parts }
-        requires some { 0 < blank.parts }
-    {
-        let mut steps = Steps::<L>::new(blank);
-        tick_twice(&mut steps);
-        size_of::<Steps<L>>()
-    }
-
-    #[test]
-    fn a_caller_makes_a_counter_of_its_own(rt: HostRuntime) {
-        assert_eq!(rt; tick_uncounted::<Brand>(Blank::new(1)), 0);
-    }
-}

@@ -4,11 +4,10 @@ ghost use Rattle.std.specs.Ordering.{nat_cmp, int_cmp};
 ghost use Rattle.exact_frac.specs.Parts.{signed};
 
 use crate::fraction::parts::Parts;
-use crate::magnitude::{LOW, div_rem};
+use crate::magnitude::{LOW, wide_product};
 use std::cmp::Ordering;
 
-/// How a/b and c/d compare: by cross products where all fit 64 bits, else by floors and, where these are
-/// equal, by the reciprocals of what is left, as in Euclid's algorithm.
+/// How a/b and c/d compare: by the products of each numerator with the other denominator.
 fn compare_sizes(a: u128, b: u128, c: u128, d: u128) -> Ordering
     requires left { 0 < b }
     requires right { 0 < d }
@@ -17,23 +16,15 @@ fn compare_sizes(a: u128, b: u128, c: u128, d: u128) -> Ordering
     if b == d {
         return a.cmp(&c);
     }
-    let (mut a, mut b, mut c, mut d) = (a, b, c, d);
-    loop {
-        if a <= LOW && b <= LOW && c <= LOW && d <= LOW {
-            return (a * d).cmp(&(c * b));
-        }
-        let (left, rest_left) = div_rem(a, b);
-        let (right, rest_right) = div_rem(c, d);
-        if left != right {
-            return left.cmp(&right);
-        }
-        if rest_left == 0 || rest_right == 0 {
-            return rest_left.cmp(&rest_right);
-        }
-        a = d;
-        c = b;
-        b = rest_right;
-        d = rest_left;
+    if a <= LOW && b <= LOW && c <= LOW && d <= LOW {
+        return (a * d).cmp(&(c * b));
+    }
+    let (high_left, low_left) = wide_product(a, d);
+    let (high_right, low_right) = wide_product(c, b);
+    if high_left == high_right {
+        low_left.cmp(&low_right)
+    } else {
+        high_left.cmp(&high_right)
     }
 }
 

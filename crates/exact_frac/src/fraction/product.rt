@@ -14,7 +14,7 @@ use crate::magnitude::div_rem;
 use crate::unfit::Unfit;
 
 /// The size and the denominator of a/b times c/d in lowest terms, where both are below 2^127.
-#[tactic(auto, using(rational::specs::Gcd::gcd_pos))]
+#[tactic(auto, using(rational::proofs::Gcd::gcd_pos))]
 fn reduced(a: u128, b: u128, c: u128, d: u128) -> Option<(u128, u128)>
     requires left { 0 < b }
     requires right { 0 < d }

@@ -1,8 +1,9 @@
 // Sums.
-ghost use Rattle.std.specs.Prelude.{◌≡◌, ℕ, ◌+◌, ◌*◌, ◌/◌, ◌%◌, ◌^◌, ◌<◌, ◌≤◌, pos, ◌+ℤ◌, ◌*ℤ◌, nat_abs, SomeIff, MatchOption};
+ghost use Rattle.std.specs.Prelude.{◌≡◌, ℕ, ◌+◌, ◌*◌, ◌/◌, ◌%◌, ◌^◌, ◌<◌, ◌≤◌, pos, ◌+ℤ◌, ◌*ℤ◌, nat_abs, SomeIff, IfSome, MatchOption};
 ghost use Rattle.std.specs.Int.{◌∣◌};
 ghost use Rattle.rational.specs.Gcd.{gcd};
-ghost use Rattle.rational.specs.Rational.{whole, ◌+ℚ◌, ◌-ℚ◌, FitsWidth};
+ghost use Rattle.rational.specs.Rational.{whole, ◌+ℚ◌, ◌-ℚ◌};
+ghost use Rattle.rational.specs.Width.{FitsWidth};
 ghost use Rattle.exact_frac.specs.Exact.{Exact};
 ghost use Rattle.exact_frac.specs.Parts.{signed, Splits, SplitsBelow};
 ghost use Rattle.exact_frac.specs.Floor.{IsFloor};
@@ -121,22 +122,92 @@ fn joined(left: i128, right: i128, part: u128, denom: u128) -> Option<(bool, u12
     }
 }
 
+/// Two denominators over their greatest common divisor.
+#[derive(Clone, Copy)]
+struct Common {
+    divisor: u128,
+    left: u128,
+    right: u128,
+}
+
+/// Two denominators over their greatest common divisor, which is sought only where they differ and
+/// neither is 1.
+#[tactic(auto, using(rational::proofs::Gcd::gcd_pos))]
+fn over_common(left: u128, right: u128) -> Common
+    requires left_some { 0 < left }
+    requires right_some { 0 < right }
+    ensures divisor { result.divisor ≡ gcd left right }
+    ensures left { result.left ≡ left / result.divisor }
+    ensures right { result.right ≡ right / result.divisor }
+{
+    if left == right {
+        return Common {
+            divisor: left,
+            left: 1,
+            right: 1,
+        };
+    }
+    let divisor = gcd(left, right);
+    Common {
+        divisor,
+        left: div_rem(left, divisor).0,
+        right: div_rem(right, divisor).0,
+    }
+}
+
+/// The sign and the size of a * by_a + b * by_b, where both products are below 2^127.
+fn crosswise(a: Parts, by_a: u128, b: Parts, by_b: u128) -> Option<(bool, u128)>
+    ensures { IfSome result (λ r. signed r.0 r.1 ≡ signed a.negative a.size *ℤ pos by_a +ℤ signed b.negative b.size *ℤ pos by_b) }
+{
+    let left = magnitude::product(a.size, by_a)?;
+    let right = magnitude::product(b.size, by_b)?;
+    if a.negative == b.negative {
+        Some((a.negative, left + right))
+    } else if left < right {
+        Some((b.negative, right - left))
+    } else {
+        Some((a.negative, left - right))
+    }
+}
+
 /// The parts of the sum, where it fits 127 bits. Floors and what is left above them are added on
 /// their own, since the products of the whole numerators may be too large where the sum is not.
-#[tactic(auto, using(rational::specs::Gcd::gcd_pos))]
-fn added(a: Frac, b: Frac) -> Option<Parts>
+#[tactic(auto, using(rational::proofs::Gcd::gcd_pos))]
+fn by_floors(a: Frac, b: Frac, common: Common) -> Option<Parts>
+    requires divisor { common.divisor ≡ gcd a.denominator b.denominator }
+    requires left { common.left ≡ a.denominator / common.divisor }
+    requires right { common.right ≡ b.denominator / common.divisor }
     ensures { MatchOption result (¬ FitsWidth 127 (a +ℚ b)) (λ r. Splits (a +ℚ b) r.negative r.size r.denom) }
 {
     let (a, b) = (a.parts(), b.parts());
-    let common = gcd(a.denom, b.denom);
-    let left = div_rem(a.denom, common).0;
-    let right = div_rem(b.denom, common).0;
     let (floor_a, part_a) = floor_and_part(a);
     let (floor_b, part_b) = floor_and_part(b);
-    let shared = shared_divisor(part_a, right, part_b, left, common);
-    let denom = magnitude::product(div_rem(a.denom, shared).0, right)?;
-    let part = part_over(part_a, right, part_b, left, shared);
+    let shared = shared_divisor(part_a, common.right, part_b, common.left, common.divisor);
+    let denom = magnitude::product(div_rem(a.denom, shared).0, common.right)?;
+    let part = part_over(part_a, common.right, part_b, common.left, shared);
     let (negative, size) = joined(floor_a, floor_b, part, denom)?;
+    Some(Parts {
+        negative,
+        size,
+        denom,
+    })
+}
+
+/// The parts of the sum, where it fits 127 bits: by the products of each numerator with what the other's
+/// denominator does not share, or by floors where these are too large.
+#[tactic(auto, using(rational::proofs::Gcd::gcd_pos))]
+fn added(a: Frac, b: Frac) -> Option<Parts>
+    ensures { MatchOption result (¬ FitsWidth 127 (a +ℚ b)) (λ r. Splits (a +ℚ b) r.negative r.size r.denom) }
+{
+    let (left, right) = (a.parts(), b.parts());
+    let common = over_common(left.denom, right.denom);
+    let apart = magnitude::product(common.left, common.right)?;
+    let Some((negative, total)) = crosswise(left, common.right, right, common.left) else {
+        return by_floors(a, b, common);
+    };
+    let shared = gcd(total, common.divisor);
+    let denom = magnitude::product(apart, div_rem(common.divisor, shared).0)?;
+    let size = magnitude::below_limit(div_rem(total, shared).0)?;
     Some(Parts {
         negative,
         size,
@@ -149,6 +220,12 @@ impl Frac {
     pub(crate) fn plus(self, other: Frac) -> Result<Frac, Unfit>
         ensures { Exact 127 (self +ℚ other) result }
     {
+        if self.is_zero() {
+            return other.in_full();
+        }
+        if other.is_zero() {
+            return self.in_full();
+        }
         if self.denom == 1 && other.denom == 1 {
             return whole_sum(self.numer, other.numer);
         }

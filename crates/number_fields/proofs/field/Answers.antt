@@ -1,8 +1,7 @@
 use Rattle.std.proofs.Common.{◌≡◌, ◌+◌, ◌<◌, length, sym, subst, true}
 use Rattle.std.specs.List.{list_all}
-use Rattle.lp_text.specs.PlainCards.{is_digit}
+use Rattle.lp_text.specs.Digits.{is_digit}
 use Rattle.mps_model.specs.NumberField.{signed}
-use Rattle.number_fields.specs.Spelled.{fault_of}
 use Rattle.number_fields.proofs.SpellingLemmas.{whole_digits, decimal_digits, some_first, some_second, read_fault, read_unfit, read_value}
 use Rattle.number_fields.proofs.field.Goals as goal
 use Rattle.number_fields.proofs.field.Goals.{else-is_empty-via-then-is_empty+else-is_empty-2, else-is_empty-via-else-is_empty}
@@ -22,7 +21,7 @@ returns-in-Err c =
     ] in
     read_fault c.args.bytes.now c.sign-negative.result.1.now c.mantissa.result.0.now c.mantissa.result.1.now c.mantissa.result.2.now
     c.sign-negative.ensures.rest c.mantissa.ensures.whole c.mantissa.ensures.decimals c.mantissa.ensures.rest some
-    (fault_of c.in-Err.fault) c.in-Err.ensures
+    c.in-Err.fault c.in-Err.ensures
 
 pub returns-in-None : goal.returns-in-None
 returns-in-None c =

@@ -3,8 +3,8 @@ use Rattle.std.proofs.Common.{◌≡◌, length}
 use Rattle.std.specs.List.{All}
 use Rattle.bench_links.proofs.draws.columns.Given as goal
 
-abbrev pub invariant-loop : goal.invariant-loop
-invariant-loop l = record {
-  count : length l.columns.items ≡ l.counter;
+abbrev pub invariant-loop-c : goal.invariant-loop-c
+invariant-loop-c l = record {
+  count : length l.columns.items ≡ l.c;
   lengths : All (λ column. column.length ≡ l.size) l.columns.items;
 }

@@ -1,7 +1,8 @@
 -- Each item goes behind those that were copied before it.
 use Rattle.std.proofs.Common.{length, Option, ℕ, ap, sym, subst, arith}
 use Rattle.count_chain.specs.Chains.{list_at}
-use Rattle.chain_links.proofs.Rest.{rest, rest-shorter, IfSome-after}
+use Rattle.chain_links.specs.Lists.{rest}
+use Rattle.chain_links.proofs.Rest.{rest-shorter, IfSome-after}
 use Rattle.std.specs.Option.{IfSome}
 use Rattle.std.specs.List.{Contains}
 use Rattle.count_chain.proofs.Copies.{IsCopied, IsCopied-none, IsCopied-more, copied_loose, copied_whole}

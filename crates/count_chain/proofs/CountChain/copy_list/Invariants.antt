@@ -1,7 +1,7 @@
 -- What is left of the list is followed.
 use Rattle.std.proofs.Common.{length}
 use Rattle.count_chain.specs.Chains.{list_at}
-use Rattle.chain_links.proofs.Rest.{rest}
+use Rattle.chain_links.specs.Lists.{rest}
 use Rattle.count_chain.proofs.Copies.{IsCopied}
 use Rattle.count_chain.proofs.CountChain.copy_list.Given as goal
 

@@ -10,4 +10,4 @@ returns-in-Some-clause-link c =
     let l = c.in-Some.link in
     let lines = c.self.inside.table.cols.lines in
     let held = first_link (list_at lines c.args.c) l (sym c.first.ensures.first ∙ c.in-Some.is) in
-    subst (λ (a : Matrix). IsLink a l) c.self.view_is (c.self.invariant.matrix.cols.only c.args.c l held).0
+    subst (λ (a : Matrix). IsLink a l) c.self.view_is (c.self.invariant.held.matrix.cols.only c.args.c l held).0

@@ -10,4 +10,4 @@ returns-in-Some-clause-link c =
     let l = c.in-Some.link in
     let lines = c.self.inside.table.rows.lines in
     let held = first_link (list_at lines c.args.r) l (sym c.first.ensures.first ∙ c.in-Some.is) in
-    subst (λ (a : Matrix). IsLink a l) c.self.view_is (c.self.invariant.matrix.rows.only c.args.r l held).0
+    subst (λ (a : Matrix). IsLink a l) c.self.view_is (c.self.invariant.held.matrix.rows.only c.args.r l held).0

@@ -9,7 +9,7 @@ pub returns-in-Some-clause-link : goal.returns-in-Some-clause-link
 returns-in-Some-clause-link c =
     let l = c.in-Some.behind in
     let a = matrix_of c.self.inside.table in
-    let h = c.self.invariant.matrix in
+    let h = c.self.invariant.held.matrix in
     let some : IsLink a c.args.link = subst (λ (x : Matrix). IsLink x c.args.link) (sym c.self.view_is) c.requires in
     let held = behind_in (row a (row_of a c.args.link)) c.args.link l (sym (c.next.ensures.next (row_of a c.args.link) (h.rows.held c.args.link some)) ∙ c.in-Some.is) in
     subst (λ (x : Matrix). IsLink x l) c.self.view_is (h.rows.only (row_of a c.args.link) l held).0

@@ -1,6 +1,6 @@
 -- What is left of the line is followed, and each other entry of it was looked at.
 use Rattle.std.proofs.Common.{ℕ, length}
-use Rattle.chain_links.proofs.Rest.{rest}
+use Rattle.chain_links.specs.Lists.{rest}
 use Rattle.cross_links.specs.Matrix.{col}
 use Rattle.cross_links.specs.Sides.{IsLinkIfSome, Covers}
 use Rattle.cross_links.specs.Held.{matrix_of}

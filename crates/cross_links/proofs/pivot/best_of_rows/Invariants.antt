@@ -1,7 +1,7 @@
 -- What is left of the bucket is followed, and each other line of it was looked at.
 use Rattle.std.proofs.Common.{ℕ, length}
 use Rattle.std.specs.List.{Contains}
-use Rattle.chain_links.proofs.Rest.{rest}
+use Rattle.chain_links.specs.Lists.{rest}
 use Rattle.count_chain.specs.Chains.{list_at}
 use Rattle.cross_links.specs.Matrix.{row}
 use Rattle.cross_links.specs.Sides.{IsLinkIfSome, Covers}

@@ -1,5 +1,5 @@
 use Rattle.std.proofs.Common.{ap, cond, sym, ◌∙◌}
-use Rattle.deck_model.proofs.Zero.{eq_ℚ-tested}
+use Rattle.rational.proofs.OrderLaws.{eq_ℚ-tested}
 use Rattle.deck_model.proofs.deck.count.Goals as goal
 
 pub returns-then-is_zero : goal.returns-then-is_zero

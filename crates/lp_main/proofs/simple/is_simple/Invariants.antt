@@ -1,6 +1,6 @@
 use Rattle.std.proofs.Common.{◌≡◌, ◌<◌, ℕ}
 use Rattle.lp_model.specs.Deck.{column as column_at, nonnegative, row as row_at}
-use Rattle.lp_model.specs.Simple.{IsSimpleRow}
+use Rattle.lp_run.specs.Simple.{IsSimpleRow}
 use Rattle.lp_main.proofs.simple.is_simple.Given as goal
 
 abbrev pub invariant-loop-row : goal.invariant-loop-row

@@ -1,5 +1,5 @@
 use Rattle.std.proofs.Common.{◌∙◌, Err, ap, refl, subst}
-use Rattle.mps_reader.specs.Reached.{IsLineCause}
+use Rattle.mps_reader.specs.Inner.Reached.{IsLineCause}
 use Rattle.mps_reader.proofs.NeededLemmas.{needed_next, unread}
 use Rattle.mps_reader.proofs.ReachedLemmas.{deck_read, end_refused, err_is, has_columns, lines_first, lines_next, lines_unmoved, next_stands, not_taken, reached_next, reached_start, read_failed, refused_line, rises, stands_at_end, stands_behind, still_sound}
 use Rattle.mps_reader.proofs.reading.read_deck.Goals as goal

@@ -1,6 +1,7 @@
 use Rattle.std.proofs.Common.{◌≡◌, ◌-◌}
+use Rattle.lp_text.specs.Limits.{byte_limit}
 use Rattle.mps_reader.specs.Answers.{IsReadAsNeeded}
-use Rattle.mps_reader.specs.Reached.{Reached}
+use Rattle.mps_reader.specs.Inner.Reached.{Reached}
 use Rattle.mps_reader.proofs.reading.read_deck.Given as goal
 
 abbrev pub invariant-lines : goal.invariant-lines
@@ -12,4 +13,4 @@ invariant-lines g l = record {
 
 -- each line has a byte
 abbrev pub decreases-lines : goal.decreases-lines
-decreases-lines g l = 4194304 - l.lines.since
+decreases-lines g l = byte_limit - l.lines.since

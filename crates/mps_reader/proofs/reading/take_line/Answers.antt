@@ -2,9 +2,9 @@ use Rattle.std.proofs.Common.{◌∙◌, Ok, subst, sym}
 use Rattle.lp_text.specs.Cards.{card_of}
 use Rattle.mps_cards.specs.Splitting.{Says}
 use Rattle.mps_model.specs.Judgement.{judge_columns}
-use Rattle.mps_reader.specs.Reached.{IsFoundAt}
-use Rattle.mps_reader.specs.Refusals.{line_fault}
-use Rattle.mps_reader.specs.Standing.{IsFound}
+use Rattle.mps_reader.specs.Inner.Reached.{IsFoundAt}
+use Rattle.mps_reader.specs.Inner.Refusals.{line_fault}
+use Rattle.mps_reader.specs.Inner.Standing.{IsFound}
 use Rattle.mps_reader.proofs.LineLemmas.{card_line, ignored_line, long_enough, refused_at, short_field}
 use Rattle.mps_reader.proofs.reading.take_line.Goals as goal
 

@@ -1,6 +1,6 @@
 use Rattle.std.proofs.Common.{◌≡◌, ◌+◌, ◌-◌, ◌*◌, ◌/◌, ◌%◌, ◌^◌, ◌<◌, ◌++◌, lit<, sym, ◌∙◌, ap₂, arith}
 use Rattle.std.proofs.Math.Nat.{mod-lt}
-use Rattle.lp_text.specs.PlainCards.{digits_value}
+use Rattle.lp_text.specs.Digits.{digits_value}
 use Rattle.number_fields.proofs.Places.{past_first, front_more, front_large, front_small}
 use Rattle.number_fields.proofs.digits.front.Goals as goal
 

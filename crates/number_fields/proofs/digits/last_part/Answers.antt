@@ -1,5 +1,5 @@
 use Rattle.std.proofs.Common.{◌++◌, arith}
-use Rattle.lp_text.specs.PlainCards.{digits_value}
+use Rattle.lp_text.specs.Digits.{digits_value}
 use Rattle.number_fields.proofs.PartLemmas.{part_init, part_further, part_fine}
 use Rattle.number_fields.proofs.digits.last_part.Goals as goal
 

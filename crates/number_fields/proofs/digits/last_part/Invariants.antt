@@ -1,5 +1,5 @@
 use Rattle.std.proofs.Common.{◌≡◌, ◌^◌, ◌*◌, ◌%◌, ◌++◌}
-use Rattle.lp_text.specs.PlainCards.{digits_value}
+use Rattle.lp_text.specs.Digits.{digits_value}
 use Rattle.number_fields.specs.Parts.{IsProper}
 use Rattle.number_fields.proofs.digits.last_part.Given as goal
 

@@ -1,5 +1,5 @@
 use Rattle.std.proofs.Common.{◌++◌, length}
-use Rattle.lp_text.specs.PlainCards.{digits_value}
+use Rattle.lp_text.specs.Digits.{digits_value}
 use Rattle.number_fields.proofs.PartLemmas.{fits_down, fits_within, fits_past}
 use Rattle.number_fields.proofs.parts.value.Goals as goal
 

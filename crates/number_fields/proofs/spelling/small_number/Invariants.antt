@@ -1,5 +1,5 @@
 use Rattle.std.proofs.Common.{◌≡◌, take, min}
-use Rattle.lp_text.specs.PlainCards.{digits_value}
+use Rattle.lp_text.specs.Digits.{digits_value}
 use Rattle.number_fields.proofs.spelling.small_number.Given as goal
 
 abbrev pub invariant-loop-byte : goal.invariant-loop-byte

@@ -1,5 +1,5 @@
 -- The node before the end is the last position, or the end again.
-use Rattle.std.proofs.Common.{◌≡◌, ◌<◌, sym, ◌-◌, length, slice_get, ◌∙◌, ap, arith, subst}
+use Rattle.std.proofs.Common.{◌≡◌, ◌<◌, sym, length, reverse, slice_get, ◌∙◌, ap, arith, subst}
 use Rattle.std.specs.Option.{IfSome}
 use Rattle.order_chain.specs.Order.{IsWhole, position_of}
 use Rattle.order_chain.proofs.OrderOf.{last_says, IsWhole-order, length-order}
@@ -12,7 +12,7 @@ prev-requires c =
 
 pub returns-clause-last : goal.returns-clause-last
 returns-clause-last c =
-    subst (λ order. c.position.result ≡ slice_get order (length order - 1)) c.self.view_is
+    subst (λ order. c.position.result ≡ slice_get (reverse order) 0) c.self.view_is
     (c.position.ensures.position ∙ ap (λ node. position_of node c.self.inside.len) c.prev.ensures ∙ last_says c.self.inside.links c.self.inside.len c.self.invariant)
 
 pub returns-clause-position : goal.returns-clause-position

@@ -1,7 +1,7 @@
 use Rattle.std.proofs.Common.{length, ◌∙◌, arith}
 use Rattle.rational.specs.Rational.{zero_ℚ}
-use Rattle.lp_model.specs.Outcome.{by_position}
-use Rattle.simple_solve.proofs.Points.{list_of}
+use Rattle.rational.proofs.VectorLaws.{list_of}
+use Rattle.lp_run.specs.Ends.{by_position}
 use Rattle.simple_solve.proofs.point.point.Goals as goal
 
 pub returns : goal.returns

@@ -1,7 +1,7 @@
 use Rattle.std.proofs.Common.{◌≡◌, ℕ, ◌<◌, length}
 use Rattle.rational.specs.Rational.{zero_ℚ}
 use Rattle.rational.specs.Sum.{at}
-use Rattle.lp_model.specs.Outcome.{by_position}
+use Rattle.lp_run.specs.Ends.{by_position}
 use Rattle.simple_solve.proofs.point.point.Given as goal
 
 abbrev pub invariant-loop-column : goal.invariant-loop-column

@@ -1,7 +1,7 @@
 use Rattle.std.proofs.Common.{length, ◌+◌, ◌∙◌, arith}
 use Rattle.rational.specs.Rational.{neg_ℚ}
 use Rattle.rational.specs.Sum.{at}
-use Rattle.simple_solve.proofs.Points.{list_of}
+use Rattle.rational.proofs.VectorLaws.{list_of}
 use Rattle.simple_solve.proofs.point.prices.Goals as goal
 
 pub returns : goal.returns

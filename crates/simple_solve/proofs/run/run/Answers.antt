@@ -1,4 +1,5 @@
-use Rattle.std.proofs.Common.{◌≡◌, ◌∙◌, subst, true, arith}
+use Rattle.std.proofs.Common.{◌≡◌, ◌∙◌, ap, length, subst, sym, false, true, arith}
+use Rattle.simple_laws.specs.Plain.{NoneEnters}
 use Rattle.simple_solve.specs.Solved.{IsFaultCause, IsStep, StandsAfter}
 use Rattle.simple_solve.proofs.Runs.{last_from, step_stands, stop_cause}
 use Rattle.simple_solve.proofs.run.run.Goals as goal
@@ -23,3 +24,11 @@ returns-clause-cause g c =
   where
     spent : c.loop.counter ≡ c.args.budget
     spent = omega arith
+
+pub returns-in-Ok-false-clause-rests : goal.returns-in-Ok-false-clause-rests
+returns-in-Ok-false-clause-rests g c =
+    let step : IsStep c.loop.table c.step.new.table false = subst (IsStep c.loop.table c.step.new.table) c.in-Ok-false.field-0-test c.in-Ok-false.ensures.step in (
+      subst NoneEnters (sym step.1) step.0,
+      ap (λ t. length t.costs) step.1 ∙ c.loop.invariant.1,
+      λ d starts. (c.loop.counter, omega arith, subst (StandsAfter d c.loop.counter) (sym step.1) (c.loop.invariant.0 d starts)),
+    )

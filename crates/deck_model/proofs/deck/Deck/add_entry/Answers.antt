@@ -1,6 +1,6 @@
 use Rattle.std.proofs.Common.{sym, ◌∙◌}
 use Rattle.deck_model.proofs.Inserted.{with_entry-zero}
-use Rattle.deck_model.proofs.Zero.{eq_ℚ-tested}
+use Rattle.rational.proofs.OrderLaws.{eq_ℚ-tested}
 use Rattle.deck_model.proofs.deck.Deck.add_entry.Goals as goal
 
 pub returns-else-not-is_zero-clause-ok : goal.returns-else-not-is_zero-clause-ok

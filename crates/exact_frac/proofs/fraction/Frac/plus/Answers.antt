@@ -2,7 +2,14 @@ use Rattle.std.proofs.Common.{subst}
 use Rattle.exact_frac.specs.Exact.{Exact}
 use Rattle.exact_frac.proofs.Lowest.{same_split, fits_split}
 use Rattle.exact_frac.proofs.Whole.{wholes_added}
+use Rattle.exact_frac.proofs.Zero.{zero_added, added_zero}
 use Rattle.exact_frac.proofs.fraction.Frac.plus.Goals as goal
+
+pub returns-then-is_zero : goal.returns-then-is_zero
+returns-then-is_zero c = zero_added c.args.self c.args.other _ (c.is_zero.ensures.0 c.if-is_zero.true) c.in_full.ensures
+
+pub returns-then-is_zero-2 : goal.returns-then-is_zero-2
+returns-then-is_zero-2 c = added_zero c.args.self c.args.other _ (c.is_zero-2.ensures.0 c.if-is_zero-2.true) c.in_full-then-is_zero-2.ensures
 
 pub returns-then-other-eq1 : goal.returns-then-other-eq1
 returns-then-other-eq1 c =

@@ -1,6 +1,6 @@
-use Rattle.std.proofs.Common.{◌*◌, ◌∙◌, sym, ap, arith}
+use Rattle.std.proofs.Common.{◌*◌, ◌^◌, ◌<◌, ◌∙◌, sym, ap, rules}
 use Rattle.std.specs.Ordering.{nat_cmp}
-use Rattle.exact_frac.proofs.Reciprocals.{cmp_scaled, floors_decide, rests_decide, reciprocals_decide}
+use Rattle.exact_frac.proofs.Wide.{cmp_scaled, cmp_low, cmp_high}
 use Rattle.exact_frac.proofs.fraction.comparison.compare_sizes.Goals as goal
 
 pub returns-then-b-d : goal.returns-then-b-d
@@ -8,25 +8,14 @@ returns-then-b-d c =
     c.cmp.ensures ∙ cmp_scaled c.args.a c.args.c c.args.d c.requires.right
     ∙ ap (λ b. nat_cmp (c.args.a * c.args.d) (c.args.c * b)) (sym c.if-b-d.true)
 
-pub returns-then-left-right : goal.returns-then-left-right
-returns-then-left-right c =
-    let kept = c.loop-a.invariant in
-    c.cmp-then-left-right.ensures
-    ∙ floors_decide _ _ _ _ _ _ _ _ c.div_rem-left.ensures.quotient c.div_rem-left.ensures.rest c.div_rem-right.ensures.quotient c.div_rem-right.ensures.rest kept.0 kept.1 c.if-left-right.true
-    ∙ kept.2
+pub returns-then-high_left-high_right : goal.returns-then-high_left-high_right
+returns-then-high_left-high_right c =
+    c.cmp-then-high_left-high_right.ensures
+    ∙ cmp_low _ _ _ _ _ _ c.wide_product-high_left.ensures c.wide_product-high_right.ensures c.if-high_left-high_right.true
 
-pub returns-then-rest_left-eq0 : goal.returns-then-rest_left-eq0
-returns-then-rest_left-eq0 c =
-    let kept = c.loop-a.invariant in
-    c.cmp-then-rest_left-eq0.ensures
-    ∙ rests_decide _ _ _ _ _ _ _ _ c.div_rem-left.ensures.quotient c.div_rem-left.ensures.rest c.div_rem-right.ensures.quotient c.div_rem-right.ensures.rest c.if-left-right.false kept.0 kept.1 c.then-rest_left-eq0.either
-    ∙ kept.2
-
-pub loop-a-preserved : goal.loop-a-preserved
-loop-a-preserved c =
-    let kept = c.loop-a.invariant in (
-      omega arith,
-      omega arith,
-      reciprocals_decide _ _ _ _ _ _ _ _ c.div_rem-left.ensures.quotient c.div_rem-left.ensures.rest c.div_rem-right.ensures.quotient c.div_rem-right.ensures.rest c.if-left-right.false
-          ∙ kept.2,
-    )
+pub returns-else-high_left-high_right : goal.returns-else-high_left-high_right
+returns-else-high_left-high_right c =
+    let left : c.wide_product-high_left.result.1 < 2 ^ 128 = search rules in
+    let right : c.wide_product-high_right.result.1 < 2 ^ 128 = search rules in
+    c.cmp-else-high_left-high_right.ensures
+    ∙ cmp_high _ _ _ _ _ _ c.wide_product-high_left.ensures c.wide_product-high_right.ensures c.if-high_left-high_right.false left right

@@ -1,75 +1,24 @@
-use Rattle.std.proofs.Common.{◌*◌, ◌^◌, ◌<◌, ◌∙◌, refl, ap, subst, sym, arith, rules}
-use Rattle.std.specs.Int.{w128}
-use mir.Val.{SFits}
-use Rattle.exact_frac.proofs.Floors.{joined_seen}
-use Rattle.exact_frac.proofs.Sums.{over_common, sum_terms, common_below, left_is, right_is, shared_divides, left_fits, right_fits, part_below, unfit_denom, unfit_top, sum_splits}
+use Rattle.std.proofs.Common.{refl}
+use Rattle.exact_frac.proofs.Sums.{over_common}
+use Rattle.exact_frac.proofs.Crosswise.{wide_factor, seen_wide_denom, seen_wide_size, seen_splits}
 use Rattle.exact_frac.proofs.fraction.sum.added.Goals as goal
 
-pub shared_divisor-shared-requires-clause-below : goal.shared_divisor-shared-requires-clause-below
-shared_divisor-shared-requires-clause-below c =
-    let over = over_common _ _ _ _ _ c.parts-a.ensures.splits.lowest.some c.parts-b.ensures.splits.lowest.some c.gcd-common.ensures c.div_rem-left.ensures.quotient c.div_rem-right.ensures.quotient in
-    common_below _ _ _ _ _ over c.parts-b.ensures.splits.lowest.denom_below
-
-pub shared_divisor-shared-requires-clause-left_fits : goal.shared_divisor-shared-requires-clause-left_fits
-shared_divisor-shared-requires-clause-left_fits c =
-    let over = over_common _ _ _ _ _ c.parts-a.ensures.splits.lowest.some c.parts-b.ensures.splits.lowest.some c.gcd-common.ensures c.div_rem-left.ensures.quotient c.div_rem-right.ensures.quotient in
-    omega (arith, right_is _ _ _ _ _ over, c.parts-b.ensures.splits.lowest.denom_below)
-
-pub shared_divisor-shared-requires-clause-right_fits : goal.shared_divisor-shared-requires-clause-right_fits
-shared_divisor-shared-requires-clause-right_fits c =
-    let over = over_common _ _ _ _ _ c.parts-a.ensures.splits.lowest.some c.parts-b.ensures.splits.lowest.some c.gcd-common.ensures c.div_rem-left.ensures.quotient c.div_rem-right.ensures.quotient in
-    omega (arith, left_is _ _ _ _ _ over, c.parts-a.ensures.splits.lowest.denom_below)
+pub returns-in_err-apart : goal.returns-in_err-apart
+returns-in_err-apart c =
+    let over = over_common _ _ _ _ _ c.parts-left.ensures.splits.lowest.some c.parts-right.ensures.splits.lowest.some c.over_common-common.ensures.divisor c.over_common-common.ensures.left c.over_common-common.ensures.right in
+    rw c.from_residual.ensures (wide_factor _ _ _ _ _ _ _ _ _ _ _ c.parts-left.ensures.splits c.parts-right.ensures.splits over c.in_err-apart.ensures)
 
 pub returns-in_err-denom : goal.returns-in_err-denom
 returns-in_err-denom c =
-    let over = over_common _ _ _ _ _ c.parts-a.ensures.splits.lowest.some c.parts-b.ensures.splits.lowest.some c.gcd-common.ensures c.div_rem-left.ensures.quotient c.div_rem-right.ensures.quotient in
-    let terms = sum_terms _ _ _ _ _ _ _ _ over c.floor_and_part-floor_a.ensures.part_below c.floor_and_part-floor_b.ensures.part_below c.shared_divisor-shared.ensures in
-    rw c.from_residual.ensures (unfit_denom _ _ _ _ _ _ _ _ terms _ refl c.args.a c.args.b c.parts-a.result.negative c.parts-b.result.negative c.parts-a.result.size c.parts-b.result.size c.floor_and_part-floor_a.result.0 c.floor_and_part-floor_b.result.0 c.parts-a.ensures.splits c.parts-b.ensures.splits c.floor_and_part-floor_a.ensures c.floor_and_part-floor_b.ensures _ refl (λ h. c.in_err-denom.ensures (subst (λ n. n * c.div_rem-right.result.0 < 2 ^ 127) (sym c.div_rem.ensures.quotient) h)))
+    let over = over_common _ _ _ _ _ c.parts-left.ensures.splits.lowest.some c.parts-right.ensures.splits.lowest.some c.over_common-common.ensures.divisor c.over_common-common.ensures.left c.over_common-common.ensures.right in
+    rw c.from_residual-in_err-denom.ensures (seen_wide_denom _ _ _ _ _ _ _ _ _ _ _ c.parts-left.ensures.splits c.parts-right.ensures.splits over c.in-Some.negative c.in-Some.total c.in-Some.ensures _ _ _ _ c.gcd-shared.ensures c.in_ok-apart.ensures.1 c.div_rem.ensures.quotient refl c.in_err-denom.ensures)
 
-pub part_over-part-requires-clause-divides : goal.part_over-part-requires-clause-divides
-part_over-part-requires-clause-divides c =
-    let over = over_common _ _ _ _ _ c.parts-a.ensures.splits.lowest.some c.parts-b.ensures.splits.lowest.some c.gcd-common.ensures c.div_rem-left.ensures.quotient c.div_rem-right.ensures.quotient in
-    let terms = sum_terms _ _ _ _ _ _ _ _ over c.floor_and_part-floor_a.ensures.part_below c.floor_and_part-floor_b.ensures.part_below c.shared_divisor-shared.ensures in
-    shared_divides _ _ _ _ _ _ _ _ terms
-
-pub part_over-part-requires-clause-left_fits : goal.part_over-part-requires-clause-left_fits
-part_over-part-requires-clause-left_fits c =
-    let over = over_common _ _ _ _ _ c.parts-a.ensures.splits.lowest.some c.parts-b.ensures.splits.lowest.some c.gcd-common.ensures c.div_rem-left.ensures.quotient c.div_rem-right.ensures.quotient in
-    let terms = sum_terms _ _ _ _ _ _ _ _ over c.floor_and_part-floor_a.ensures.part_below c.floor_and_part-floor_b.ensures.part_below c.shared_divisor-shared.ensures in
-    right_fits _ _ _ _ _ _ _ _ terms c.parts-b.ensures.splits.lowest.denom_below
-
-pub part_over-part-requires-clause-right_fits : goal.part_over-part-requires-clause-right_fits
-part_over-part-requires-clause-right_fits c =
-    let over = over_common _ _ _ _ _ c.parts-a.ensures.splits.lowest.some c.parts-b.ensures.splits.lowest.some c.gcd-common.ensures c.div_rem-left.ensures.quotient c.div_rem-right.ensures.quotient in
-    let terms = sum_terms _ _ _ _ _ _ _ _ over c.floor_and_part-floor_a.ensures.part_below c.floor_and_part-floor_b.ensures.part_below c.shared_divisor-shared.ensures in
-    left_fits _ _ _ _ _ _ _ _ terms c.parts-a.ensures.splits.lowest.denom_below
-
-pub part_over-part-requires-clause-fits : goal.part_over-part-requires-clause-fits
-part_over-part-requires-clause-fits c =
-    let over = over_common _ _ _ _ _ c.parts-a.ensures.splits.lowest.some c.parts-b.ensures.splits.lowest.some c.gcd-common.ensures c.div_rem-left.ensures.quotient c.div_rem-right.ensures.quotient in
-    let terms = sum_terms _ _ _ _ _ _ _ _ over c.floor_and_part-floor_a.ensures.part_below c.floor_and_part-floor_b.ensures.part_below c.shared_divisor-shared.ensures in
-    omega (arith, c.in_ok-denom.ensures.0, c.in_ok-denom.ensures.1, part_below _ _ _ _ _ _ _ _ terms c.in_ok-denom.denom (c.in_ok-denom.ensures.1 ∙ ap (λ n. n * c.div_rem-right.result.0) c.div_rem.ensures.quotient))
-
-pub joined-requires-clause-part_below : goal.joined-requires-clause-part_below
-joined-requires-clause-part_below c =
-    let over = over_common _ _ _ _ _ c.parts-a.ensures.splits.lowest.some c.parts-b.ensures.splits.lowest.some c.gcd-common.ensures c.div_rem-left.ensures.quotient c.div_rem-right.ensures.quotient in
-    let terms = sum_terms _ _ _ _ _ _ _ _ over c.floor_and_part-floor_a.ensures.part_below c.floor_and_part-floor_b.ensures.part_below c.shared_divisor-shared.ensures in
-    omega (arith, c.part_over-part.ensures, part_below _ _ _ _ _ _ _ _ terms c.in_ok-denom.denom (c.in_ok-denom.ensures.1 ∙ ap (λ n. n * c.div_rem-right.result.0) c.div_rem.ensures.quotient))
-
-pub returns-in_err-negative : goal.returns-in_err-negative
-returns-in_err-negative c =
-    let over = over_common _ _ _ _ _ c.parts-a.ensures.splits.lowest.some c.parts-b.ensures.splits.lowest.some c.gcd-common.ensures c.div_rem-left.ensures.quotient c.div_rem-right.ensures.quotient in
-    let terms = sum_terms _ _ _ _ _ _ _ _ over c.floor_and_part-floor_a.ensures.part_below c.floor_and_part-floor_b.ensures.part_below c.shared_divisor-shared.ensures in
-    let fits_a : SFits w128 c.floor_and_part-floor_a.result.0 = search rules in
-    let fits_b : SFits w128 c.floor_and_part-floor_b.result.0 = search rules in
-    let seen = joined_seen c.floor_and_part-floor_a.result.0 c.floor_and_part-floor_b.result.0 c.in_ok-denom.denom c.part_over-part.result fits_a fits_b in
-    rw c.from_residual-in_err-negative.ensures (unfit_top _ _ _ _ _ _ _ _ terms c.in_ok-denom.denom (c.in_ok-denom.ensures.1 ∙ ap (λ n. n * c.div_rem-right.result.0) c.div_rem.ensures.quotient) c.args.a c.args.b c.parts-a.result.negative c.parts-b.result.negative c.parts-a.result.size c.parts-b.result.size c.floor_and_part-floor_a.result.0 c.floor_and_part-floor_b.result.0 c.parts-a.ensures.splits c.parts-b.ensures.splits c.floor_and_part-floor_a.ensures c.floor_and_part-floor_b.ensures _ c.part_over-part.ensures _ seen c.in_err-negative.ensures)
+pub returns-in_err-size : goal.returns-in_err-size
+returns-in_err-size c =
+    let over = over_common _ _ _ _ _ c.parts-left.ensures.splits.lowest.some c.parts-right.ensures.splits.lowest.some c.over_common-common.ensures.divisor c.over_common-common.ensures.left c.over_common-common.ensures.right in
+    rw c.from_residual-in_err-size.ensures (seen_wide_size _ _ _ _ _ _ _ _ _ _ _ c.parts-left.ensures.splits c.parts-right.ensures.splits over c.in-Some.negative c.in-Some.total c.in-Some.ensures _ _ _ _ c.gcd-shared.ensures c.in_ok-apart.ensures.1 c.div_rem.ensures.quotient c.div_rem-2.ensures.quotient c.in_err-size.ensures)
 
 pub returns : goal.returns
 returns c =
-    let over = over_common _ _ _ _ _ c.parts-a.ensures.splits.lowest.some c.parts-b.ensures.splits.lowest.some c.gcd-common.ensures c.div_rem-left.ensures.quotient c.div_rem-right.ensures.quotient in
-    let terms = sum_terms _ _ _ _ _ _ _ _ over c.floor_and_part-floor_a.ensures.part_below c.floor_and_part-floor_b.ensures.part_below c.shared_divisor-shared.ensures in
-    let fits_a : SFits w128 c.floor_and_part-floor_a.result.0 = search rules in
-    let fits_b : SFits w128 c.floor_and_part-floor_b.result.0 = search rules in
-    let seen = joined_seen c.floor_and_part-floor_a.result.0 c.floor_and_part-floor_b.result.0 c.in_ok-denom.denom c.part_over-part.result fits_a fits_b in
-    sum_splits _ _ _ _ _ _ _ _ terms c.in_ok-denom.denom (c.in_ok-denom.ensures.1 ∙ ap (λ n. n * c.div_rem-right.result.0) c.div_rem.ensures.quotient) c.args.a c.args.b c.parts-a.result.negative c.parts-b.result.negative c.parts-a.result.size c.parts-b.result.size c.floor_and_part-floor_a.result.0 c.floor_and_part-floor_b.result.0 c.parts-a.ensures.splits c.parts-b.ensures.splits c.floor_and_part-floor_a.ensures c.floor_and_part-floor_b.ensures _ c.part_over-part.ensures _ seen _ _ c.in_ok-negative.ensures.0 c.in_ok-negative.ensures.1 (subst (λ n. n < 2 ^ 127) (sym c.in_ok-denom.ensures.1) c.in_ok-denom.ensures.0)
+    let over = over_common _ _ _ _ _ c.parts-left.ensures.splits.lowest.some c.parts-right.ensures.splits.lowest.some c.over_common-common.ensures.divisor c.over_common-common.ensures.left c.over_common-common.ensures.right in
+    seen_splits _ _ _ _ _ _ _ _ _ _ _ c.parts-left.ensures.splits c.parts-right.ensures.splits over c.in-Some.negative c.in-Some.total c.in-Some.ensures _ _ _ _ c.gcd-shared.ensures c.in_ok-apart.ensures.1 c.div_rem.ensures.quotient c.div_rem-2.ensures.quotient _ _ c.in_ok-size.ensures c.in_ok-denom.ensures

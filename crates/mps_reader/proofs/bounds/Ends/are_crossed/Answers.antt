@@ -1,6 +1,6 @@
 use Rattle.std.proofs.Common.{◌∙◌, ap₂, sym}
 use Rattle.mps_model.specs.DeckOf.{are_crossed}
-use Rattle.mps_reader.proofs.Comparisons.{is_lt-cmp_ℚ}
+use Rattle.rational.proofs.OrderLaws.{is_lt-cmp_ℚ}
 use Rattle.mps_reader.proofs.bounds.Ends.are_crossed.Goals as goal
 
 pub returns-in-Some-Some : goal.returns-in-Some-Some

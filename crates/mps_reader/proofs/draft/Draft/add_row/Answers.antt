@@ -2,11 +2,12 @@ use Rattle.std.proofs.Common.{◌≡◌, ◌≢◌, Result, Ok, Err, refl, sym, 
 use Rattle.std.specs.Result.{IsErr, IsErrAnd}
 use Rattle.deck_model.specs.declared.fault.EditFault.{EditFault}
 use Rattle.deck_model.specs.declared.fault.EditFault.TheVariants as edit
-use Rattle.mps_model.specs.DeckSoFar.{DeckSoFar, LineFault}
+use Rattle.lp_text.specs.declared.LineFault.{LineFault}
+use Rattle.mps_model.specs.DeckSoFar.{DeckSoFar}
 use Rattle.mps_reader.specs.declared.draft.Draft.{Draft}
 use Rattle.mps_reader.specs.declared.refusal.Refusal.{Refusal}
-use Rattle.mps_reader.specs.Refusals.{edit_refusal, line_fault}
-use Rattle.mps_reader.specs.Standing.{IsFound, Judged}
+use Rattle.mps_reader.specs.Inner.Refusals.{edit_refusal, line_fault}
+use Rattle.mps_reader.specs.Inner.Standing.{IsFound, Judged}
 use Rattle.lp_model.specs.Edit.{with_row}
 use Rattle.mps_reader.proofs.RowsAdded.{fresh, no_column, room, row_added}
 use Rattle.mps_reader.proofs.draft.Draft.add_row.Goals as goal

@@ -4,9 +4,9 @@ use Rattle.exact_frac.specs.Constants.{ratio-zero, zero_fits}
 use Rattle.mps_reader.proofs.Columns.{begin_column-full, begun_column}
 use Rattle.mps_reader.proofs.draft.Draft.begin_column.Goals as goal
 
-pub returns-then-columns-ge-COLUMNS-clause-judged :
-    goal.returns-then-columns-ge-COLUMNS-clause-judged
-returns-then-columns-ge-COLUMNS-clause-judged c = λ s h. begin_column-full c.args.self.now s h c.args.name (omega arith)
+pub returns-then-columns-ge-COLUMN_LIMIT-clause-judged :
+    goal.returns-then-columns-ge-COLUMN_LIMIT-clause-judged
+returns-then-columns-ge-COLUMN_LIMIT-clause-judged c = λ s h. begin_column-full c.args.self.now s h c.args.name (omega arith)
 
 pub invariant_of-push : goal.invariant_of-push
 invariant_of-push c = zero_fits

@@ -7,7 +7,7 @@ use Rattle.mps_reader.proofs.draft.Draft.check_room.Goals as goal
 pub returns-then-is_zero : goal.returns-then-is_zero
 returns-then-is_zero c = room-zero c.args.self.now.deck c.args.value (c.is_zero.ensures.0 c.if-is_zero.true)
 
-pub returns-then-entries-ge-ENTRIES : goal.returns-then-entries-ge-ENTRIES
-returns-then-entries-ge-ENTRIES c =
+pub returns-then-entries-ge-ENTRY_LIMIT : goal.returns-then-entries-ge-ENTRY_LIMIT
+returns-then-entries-ge-ENTRY_LIMIT c =
     let other : c.args.value ≢ zero_ℚ = λ e. let zero : c.is_zero.result ≡ true = c.is_zero.ensures.1 e in let none : c.is_zero.result ≡ false = c.if-is_zero.false in cc (zero, none) in
     (room-none c.args.self.now.deck c.args.value other (omega (arith, c.entries.ensures)), refl)

@@ -1,7 +1,7 @@
 use Rattle.std.proofs.Common.{◌∙◌, ap, ap₂, arith, subst, sym}
 use Rattle.lp_model.specs.Deck.{IsUncrossed}
 use Rattle.lp_model.specs.Edit.{with_bounds}
-use Rattle.mps_reader.specs.Standing.{bounds_of}
+use Rattle.mps_reader.specs.Inner.Standing.{interval_of}
 use Rattle.mps_reader.proofs.CrossedColumns.{given-next, one_more, uncrossed}
 use Rattle.mps_reader.proofs.DeckEnds.{column_given, first_crossed, none_crossed, none_given}
 use Rattle.mps_reader.proofs.draft.Draft.into_deck.Goals as goal
@@ -28,14 +28,14 @@ set_bounds-requires-clause-column c =
 pub set_bounds-requires-clause-uncrossed : goal.set_bounds-requires-clause-uncrossed
 set_bounds-requires-clause-uncrossed c =
     subst IsUncrossed (ap₂ (λ l u. record { lower = l; upper = u }) (sym c.lower_end.ensures.end) (sym c.upper_end.ensures.end))
-    (uncrossed (bounds_of c.ends-item.result) (sym c.if-are_crossed.ensures))
+    (uncrossed (interval_of c.ends-item.result) (sym c.if-are_crossed.ensures))
 
 pub loop-column-preserved : goal.loop-column-preserved
 loop-column-preserved c = record {
   given =
       c.set_bounds.ensures
       ∙ ap₂ (λ d b. with_bounds d c.loop-column.column b) c.loop-column.invariant.given
-      (ap₂ (λ l u. record { lower = l; upper = u }) c.lower_end.ensures.end c.upper_end.ensures.end ∙ ap bounds_of c.ends-item.is)
+      (ap₂ (λ l u. record { lower = l; upper = u }) c.lower_end.ensures.end c.upper_end.ensures.end ∙ ap interval_of c.ends-item.is)
       ∙ given-next c.args.self.deck c.deref-ends-items.result.now c.loop-column.column c.ends-item.result c.loop-column-test.true;
   uncrossed = one_more c.deref-ends-items.result.now c.loop-column.column c.ends-item.result c.loop-column-test.true c.ends-item.is (sym c.if-are_crossed.ensures) c.loop-column.invariant.uncrossed;
 }

@@ -1,6 +1,6 @@
 -- A card of a column is judged at its column, and then by its pairs.
 use Rattle.std.proofs.Common.{sym, ◌∙◌, subst}
-use Rattle.mps_reader.specs.Standing.{Judged}
+use Rattle.mps_reader.specs.Inner.Standing.{Judged}
 use Rattle.mps_reader.proofs.CardSteps.{column-next, column-refused}
 use Rattle.mps_reader.proofs.PairSteps.{refused}
 use Rattle.mps_reader.proofs.draft.Draft.take_column.Goals as goal

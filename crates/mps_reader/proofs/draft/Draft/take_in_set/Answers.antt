@@ -1,8 +1,8 @@
 use Rattle.std.proofs.Common.{IfSome, sym, ap, ◌∙◌, subst}
 use Rattle.mps_model.specs.BoundCards.{judge_bound}
 use Rattle.mps_model.specs.PairCards.{judge_pairs, with_set}
-use Rattle.mps_reader.specs.Kinds.{use_is}
-use Rattle.mps_reader.specs.Standing.{MayUse, set_judge}
+use Rattle.mps_reader.specs.Inner.Uses.{use_is}
+use Rattle.mps_reader.specs.Inner.Standing.{MayUse, set_judge}
 use Rattle.mps_reader.proofs.DataCards.{judged_as, may_in_set, of_other_set, of_set, of_unused, of_used}
 use Rattle.mps_reader.proofs.draft.Draft.take_in_set.Goals as goal
 

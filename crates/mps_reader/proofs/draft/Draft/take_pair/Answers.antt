@@ -2,7 +2,7 @@
 use Rattle.std.proofs.Common.{◌<◌, length, arith, ap, sym, ◌∙◌}
 use Rattle.mps_model.specs.DeckSoFar.{place_of}
 use Rattle.mps_reader.specs.declared.draft.Draft.{Draft}
-use Rattle.mps_reader.specs.Standing.{slot_is, slot_of}
+use Rattle.mps_reader.specs.Inner.Standing.{slot_is, slot_of}
 use Rattle.mps_reader.proofs.PairSteps.{slot-marked, vacant, full_found, pair_full, pair_taken, refused}
 use Rattle.mps_reader.proofs.draft.Draft.take_pair.Goals as goal
 

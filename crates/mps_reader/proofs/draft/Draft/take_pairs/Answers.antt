@@ -1,7 +1,7 @@
 -- The second pair is judged by the deck so far after the first.
 use Rattle.std.proofs.Common.{sym, ◌∙◌, subst}
-use Rattle.mps_reader.specs.Kinds.{use_is}
-use Rattle.mps_reader.specs.Standing.{Judged}
+use Rattle.mps_reader.specs.Inner.Uses.{use_is}
+use Rattle.mps_reader.specs.Inner.Standing.{Judged}
 use Rattle.mps_reader.proofs.CardSteps.{pairs-one, pairs-refused, pairs-two}
 use Rattle.mps_reader.proofs.PairSteps.{refused}
 use Rattle.mps_reader.proofs.draft.Draft.take_pairs.Goals as goal

@@ -1,9 +1,8 @@
 use Rattle.std.proofs.Common.{◌≡◌, Some, None, sym, ap, ◌∙◌}
-use Rattle.std.specs.Option.{option_map}
 use Rattle.lp_text.specs.Cards.{field_of}
 use Rattle.mps_model.specs.DeckSoFar.{place_of}
-use Rattle.mps_model.specs.RowCards.{free, kept, row_type_of, with_row_of}
-use Rattle.mps_reader.specs.Kinds.{row_type_is}
+use Rattle.mps_model.specs.declared.RowType.TheVariants.{Free, Kept}
+use Rattle.mps_model.specs.RowCards.{row_type_of, with_row_of}
 use Rattle.mps_reader.proofs.DataCards.{judged_as}
 use Rattle.mps_reader.proofs.RowsAdded.{judged_named, no_place}
 use Rattle.mps_reader.proofs.draft.Draft.take_row.Goals as goal
@@ -24,9 +23,9 @@ returns-in-Free c = λ s h.
     let name = c.in_ok-name.name in
     let is : name ≡ field_of fields 2 = c.in_ok-name.ensures ∙ c.get-2.ensures in
     let none : place_of s name ≡ None = no_place c.place.result (place_of s name) (c.place.ensures.place s h) (sym c.is_some.ensures ∙ c.if-is_some.false) in
-    let typed : row_type_of (field_of fields 1) ≡ Some free =
-    sym (ap row_type_of c.get.ensures) ∙ sym c.of.ensures ∙ ap (option_map row_type_is) c.in-Some.is ∙ ap (λ k. Some (row_type_is k)) c.in-Free.is in
-    judged_as _ (with_row_of s name free) c.add_free_row.new.self c.add_free_row.result (judged_named s fields free name typed is none) (c.add_free_row.ensures s h none)
+    let typed : row_type_of (field_of fields 1) ≡ Some Free =
+    sym (ap row_type_of c.get.ensures) ∙ sym c.row_type_of.ensures ∙ c.in-Some.is ∙ ap Some c.in-Free.is in
+    judged_as _ (with_row_of s name Free) c.add_free_row.new.self c.add_free_row.result (judged_named s fields Free name typed is none) (c.add_free_row.ensures s h none)
 
 pub returns-in-Kept : goal.returns-in-Kept
 returns-in-Kept c = λ s h.
@@ -34,6 +33,6 @@ returns-in-Kept c = λ s h.
     let name = c.in_ok-name.name in
     let is : name ≡ field_of fields 2 = c.in_ok-name.ensures ∙ c.get-2.ensures in
     let none : place_of s name ≡ None = no_place c.place.result (place_of s name) (c.place.ensures.place s h) (sym c.is_some.ensures ∙ c.if-is_some.false) in
-    let typed : row_type_of (field_of fields 1) ≡ Some (kept c.in-Kept.kind) =
-    sym (ap row_type_of c.get.ensures) ∙ sym c.of.ensures ∙ ap (option_map row_type_is) c.in-Some.is ∙ ap (λ k. Some (row_type_is k)) c.in-Kept.is in
-    judged_as _ (with_row_of s name (kept c.in-Kept.kind)) c.add_row.new.self c.add_row.result (judged_named s fields (kept c.in-Kept.kind) name typed is none) (c.add_row.ensures s h none)
+    let typed : row_type_of (field_of fields 1) ≡ Some (Kept c.in-Kept.kind) =
+    sym (ap row_type_of c.get.ensures) ∙ sym c.row_type_of.ensures ∙ c.in-Some.is ∙ ap Some c.in-Kept.is in
+    judged_as _ (with_row_of s name (Kept c.in-Kept.kind)) c.add_row.new.self c.add_row.result (judged_named s fields (Kept c.in-Kept.kind) name typed is none) (c.add_row.ensures s h none)

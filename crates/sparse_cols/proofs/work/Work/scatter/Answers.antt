@@ -4,18 +4,11 @@ use Rattle.std.proofs.lemmas.List.{length-set, at_drop_all}
 use Rattle.std.proofs.lemmas.Option.{get_or_from_slice_get}
 use Rattle.sparse_cols.specs.Sparse.{IsRising}
 use Rattle.sparse_cols.specs.Work.{value_in}
-use Rattle.sparse_cols.proofs.Pairs.{row_below}
 use Rattle.sparse_cols.proofs.Rows.{scattered, scattered-next, value_in-scattered}
 use Rattle.sparse_cols.proofs.work.Work.scatter.Goals as goal
 
 pub set-requires : goal.set-requires
-set-requires g c =
-    let column = c.args.column.now in
-    let k = c.loop-k.k in
-    let p = c.pair-i.result in
-    let lt : k < length column.pairs = omega (arith, c.count-k-end.ensures.value) in
-    let at = ap (λ (q : ℕ × g.row.V.Denot). q.0) (get_or_from_slice_get column.pairs k p p c.pair-i.ensures) in
-    omega (arith, at, row_below column.length 0 column.pairs c.count-k-end.ensures.rising k p lt, c.loop-k.invariant.same_length, c.requires)
+set-requires g c = omega (arith, c.pair-i.ensures.row, c.loop-k.invariant.same_length, c.requires)
 
 pub loop-k-preserved : goal.loop-k-preserved
 loop-k-preserved g c =
@@ -23,7 +16,7 @@ loop-k-preserved g c =
     let k = c.loop-k.k in
     let p = c.pair-i.result in
     let lt : k < length ps = omega (arith, c.count-k-end.ensures.value) in
-    let at = get_or_from_slice_get ps k p p c.pair-i.ensures in
+    let at = get_or_from_slice_get ps k p p c.pair-i.ensures.value in
     record {
       same_length = ap (λ (r : List (Option g.row.V.Denot)). length r) c.set.ensures ∙ length-set c.loop-k.self p.0 (Some p.1) ∙ c.loop-k.invariant.same_length;
       left = scattered-next ps c.loop-k.self c.set.new.self k p lt at c.set.ensures ∙ c.loop-k.invariant.left;

@@ -1,0 +1,5 @@
+pub mod Kept
+pub mod OutcomeProves
+pub mod Alternatives
+pub mod Ends
+pub mod Unique

@@ -1,0 +1,3 @@
+-- inner: what the helpers of the calls answer.
+pub mod Limits
+pub mod Stopping

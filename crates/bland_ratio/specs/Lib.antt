@@ -1,0 +1,3 @@
+pub mod Leave
+pub mod Pricing
+pub mod Inner

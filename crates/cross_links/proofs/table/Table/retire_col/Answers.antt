@@ -1,0 +1,8 @@
+-- The line has no entry.
+use Rattle.std.proofs.Common.{refl}
+use Rattle.cross_links.proofs.Tables.{IsHeld-retired_col}
+use Rattle.cross_links.proofs.table.Table.retire_col.Goals as goal
+
+pub returns-clause-held : goal.returns-clause-held
+returns-clause-held g c =
+    IsHeld-retired_col c.args.self.now _ c.args.c c.requires.held c.requires.col c.requires.empty refl refl refl c.retire.ensures.lines c.retire.ensures.active c.retire.ensures.kept refl

@@ -1,0 +1,5 @@
+pub mod LineLaws
+pub mod EtaLaws
+pub mod Orders
+pub mod UpperShape
+pub mod UpperLaws

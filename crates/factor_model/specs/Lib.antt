@@ -1,0 +1,3 @@
+pub mod Eta
+pub mod Vectors
+pub mod Upper

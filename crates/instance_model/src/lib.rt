@@ -1,0 +1,28 @@
+//! Instances in memory: the equations that the method works on, and the states of a run.
+//!
+//! **Model.** An [`Instance`] is seen as `lp_run`'s record `Instance`: the right sides, the structurals, the bounds
+//! of the logicals, the ends that ranges give, the end that each row's residual passes, the constant and the sense.
+//! Of m rows and n structurals it has N = n + 2m columns: the structurals 0 to n - 1 in the deck's order, the logicals
+//! n to n + m - 1, and the artificials n + m to N - 1. A [`State`] is seen as `lp_run`'s record `State`, [`Statuses`] as the
+//! list of them, and [`Bounds`] as an `Interval`. Every instance is well formed (`IsWellFormed`), since it is made of a deck.
+//!
+//! **Contract.** `bounds`, `cost` and `entries` are those of the definitions, in each phase. [`Instance::start`] is the
+//! start of the method (`start_of`), and [`State::after`] takes in an entry (`after`) without memory. Each call that takes
+//! memory answers [`Memory`] for want of it. The making of an instance of a deck is to come; until then no program has one.
+//!
+//! It stands on `lp_run`, `deck_model`, `sparse_cols`, `sparse_steps` and `exact_frac`.
+#![tactic(auto)]
+
+mod bounds;
+mod instance;
+mod making;
+mod start;
+mod state;
+mod statuses;
+
+pub use bounds::Bounds;
+pub use instance::Instance;
+pub use making::InstanceFault;
+pub use no_memory::Memory;
+pub use state::State;
+pub use statuses::Statuses;

@@ -1,0 +1,3 @@
+-- What the contracts of inner calls cite.
+pub mod FieldList
+pub mod Pieces

@@ -1,0 +1,6 @@
+-- What the contracts of inner calls cite.
+pub mod Uses
+pub mod Refusals
+pub mod Standing
+pub mod Placed
+pub mod Reached

@@ -1,0 +1,11 @@
+pub mod Anew
+pub mod Eliminations
+pub mod Lines
+pub mod Moves
+pub mod Moving
+pub mod Parts
+pub mod Pivots
+pub mod Pricing
+pub mod Residuals
+pub mod Stepping
+pub mod Swaps

@@ -1,0 +1,17 @@
+-- The rows before the one at which the loop stops fit.
+use Rattle.std.proofs.Common.{[], length, get_or, eqb, arith}
+use Rattle.lp_run.proofs.FirstUnfit.{all-flat_map}
+use Rattle.plain_table.specs.Inner.Rows.{row_listing}
+use Rattle.plain_table.proofs.Lines.{item_read}
+use Rattle.plain_table.proofs.Eliminations.{row_unfit}
+use Rattle.plain_table.proofs.rows.eliminate_all.Goals as goal
+
+pub returns-in-Err-clause-answer : goal.returns-in-Err-clause-answer
+returns-in-Err-clause-answer g c =
+    let i = c.loop-i.i in
+    row_unfit _ _ c.loop-i.invariant.width c.args.number c.args.position c.args.q c.args.by.now c.args.rows.now i (omega arith) c.index-rows-i.result c.in-Err.place
+    (item_read c.args.rows.now i c.index-rows-i.result [] (omega arith) c.index-rows-i.is) c.loop-i.invariant.fits c.in-Err.ensures.answer
+
+pub returns-clause-answer : goal.returns-clause-answer
+returns-clause-answer g c =
+    all-flat_map _ (λ i. row_listing c.args.number (eqb i c.args.position) i c.args.q c.args.by.now (get_or c.args.rows.now i [])) (length c.args.rows.now) (λ k b. c.loop-i.invariant.fits k (omega arith))

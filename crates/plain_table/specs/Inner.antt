@@ -1,0 +1,8 @@
+-- inner: what the parts of a step list and make.
+pub mod Costs
+pub mod Lines
+pub mod Pivots
+pub mod Rows
+pub mod Starts
+pub mod Tables
+pub mod Values

@@ -1,0 +1,37 @@
+-- What is listed where a line of numbers is worked by column, and what becomes of the line.
+use Rattle.std.specs.Prelude.{◌≡◌, ℕ, ◌<◌, List, map, length, Some, Result, Ok, Err, MatchResult}
+use Rattle.std.specs.List.{flat_map}
+use Rattle.lp_model.specs.declared.Place.{Place}
+use Rattle.rational.specs.Rational.{ℚ, ◌-ℚ◌, ◌*ℚ◌, ◌/ℚ◌}
+use Rattle.rational.specs.Sparse.{upto}
+use Rattle.rational.specs.Sum.{at}
+use Rattle.rational.specs.Worked.{less, placed}
+use Rattle.exact_frac.specs.Count.{raised}
+use Rattle.lp_run.specs.Listing.{AllFit, Listed, first_unfit}
+
+-- the answer is the place of the first listed value that does not fit, and Ok where all fit
+abbrev pub Judges : {A : Type 0} → ℕ → List Listed → Result A Place → Type 0
+Judges w vs result = MatchResult result (λ _. AllFit w vs) (λ here. first_unfit w vs ≡ Some here)
+
+-- the count of unfit results after a call: raised by one exactly at a refusal
+abbrev pub counted : {A E : Type 0} → ℕ → Result A E → ℕ
+counted count (Ok answer) = count
+counted count (Err refusal) = raised count 1
+
+-- the place in a column
+abbrev pub in_column : Place → ℕ → Place
+in_column here j = record { number = here.number; kind = here.kind; row = here.row; column = Some j }
+
+abbrev pub quotients_listing : Place → List ℚ → ℚ → List Listed
+quotients_listing here line pivot = map (λ j. (in_column here j, at line j /ℚ pivot)) (upto (length line))
+
+-- out is the line divided by the pivot
+abbrev pub AreDivided : List ℚ → ℚ → List ℚ → Type 0
+AreDivided line pivot out = (j : ℕ) → j < length line → at out j ≡ at line j /ℚ pivot
+
+abbrev pub less_listing : Place → List ℚ → ℚ → List ℚ → List Listed
+less_listing here line factor by = flat_map (λ j. placed (in_column here j) (less (at line j) factor (at by j))) (upto (length line))
+
+-- out is the line less the multiple of another
+abbrev pub AreLess : List ℚ → ℚ → List ℚ → List ℚ → Type 0
+AreLess line factor by out = (j : ℕ) → j < length line → at out j ≡ at line j -ℚ factor *ℚ at by j

@@ -1,0 +1,70 @@
+//! Lines of numbers by column, worked one after another: a quotient or a difference in each.
+ghost use Rattle.std.specs.Prelude.{◌≡◌, ◌≢◌, ◌<◌, ◌^◌, length, OnOk};
+ghost use Rattle.rational.specs.Rational.{zero_ℚ};
+ghost use Rattle.plain_table.specs.Inner.Lines.{in_column as there, AreDivided, AreLess, Judges, counted, less_listing, quotients_listing};
+
+use exact_frac::{Arith, Frac};
+use lp_model::Place;
+use sparse_steps::less_product;
+
+// The place in a column.
+fn in_column(here: Place, column: usize) -> Place
+    requires { column < 2 ^ 32 }
+    ensures { result ≡ there here column }
+{
+    Place {
+        column: Some(column as u32),
+        ..here
+    }
+}
+
+/// Divides each number of a line by the pivot.
+pub fn divide_line<A: Arith>(
+    here: Place,
+    line: &[Frac],
+    pivot: Frac,
+    arith: &mut A,
+    out: &mut [Frac],
+) -> Result<(), Place>
+    requires apart { pivot ≢ zero_ℚ }
+    requires count { length out.old ≡ length line.now }
+    requires few { length line.now < 2 ^ 32 }
+    ensures answer { Judges (A.width arith.old) (quotients_listing here line.now pivot) result }
+    ensures divided { OnOk result (AreDivided line.now pivot out.new) }
+    ensures width { A.width arith.new ≡ A.width arith.old }
+    ensures unfit { A.unfit_count arith.new ≡ counted (A.unfit_count arith.old) result }
+{
+    for j in 0..line.len() {
+        match arith.div(line[j], pivot) {
+            Ok(quotient) => out[j] = quotient,
+            Err(_) => return Err(in_column(here, j)),
+        }
+    }
+    Ok(())
+}
+
+/// Takes a multiple of one line from another. A product of 0 is not worked.
+pub fn subtract_line<A: Arith>(
+    here: Place,
+    line: &[Frac],
+    factor: Frac,
+    by: &[Frac],
+    arith: &mut A,
+    out: &mut [Frac],
+) -> Result<(), Place>
+    requires by { length by.now ≡ length line.now }
+    requires count { length out.old ≡ length line.now }
+    requires few { length line.now < 2 ^ 32 }
+    ensures answer { Judges (A.width arith.old) (less_listing here line.now factor by.now) result }
+    ensures less { OnOk result (AreLess line.now factor by.now out.new) }
+    ensures width { A.width arith.new ≡ A.width arith.old }
+    ensures unfit { A.unfit_count arith.new ≡ counted (A.unfit_count arith.old) result }
+{
+    for j in 0..line.len() {
+        match less_product(line[j], factor, by[j], arith) {
+            Ok(rest) => out[j] = rest,
+            Err(_) => return Err(in_column(here, j)),
+        }
+    }
+    Ok(())
+}

@@ -1,0 +1,104 @@
+//! The parts of a table as a column takes a position, worked into spare parts.
+ghost use Rattle.std.specs.Prelude.{◌≡◌, ◌≢◌, ◌<◌, ◌^◌, [], get_or, length, OnOk, Some, None};
+ghost use Rattle.lp_model.specs.declared.Kind.TheVariants as kind;
+ghost use Rattle.lp_run.specs.Listing.{place};
+ghost use Rattle.rational.specs.Rational.{zero_ℚ};
+ghost use Rattle.rational.specs.Sum.{at};
+ghost use Rattle.plain_table.specs.Inner.Lines.{Judges, counted};
+ghost use Rattle.plain_table.specs.Inner.Pivots.{ArePivoted, swap_listing};
+ghost use Rattle.plain_table.specs.Inner.Rows.{AreWide};
+
+use crate::line::{divide_line, subtract_line};
+use crate::row::Row;
+use crate::rows::eliminate_all;
+use crate::values::move_values;
+use exact_frac::{Arith, Frac};
+use lp_model::{Kind, Place};
+
+/// What a column does that takes a position: it falls where `down` says so, or else rises, by the ratio, from `rest`.
+#[derive(Debug, Drop)]
+pub struct Pivot {
+    pub number: u64,
+    pub position: u32,
+    pub column: usize,
+    pub down: bool,
+    pub rest: Frac,
+    pub ratio: Frac,
+}
+
+// The place of the pivot row.
+fn line_place(number: u64, position: u32) -> Place
+    ensures { result ≡ place number kind.Entry (Some position) None }
+{
+    Place {
+        number,
+        kind: Kind::Entry,
+        row: Some(position),
+        column: None,
+    }
+}
+
+// The place of the reduced costs.
+fn costs_place(number: u64) -> Place
+    ensures { result ≡ place number kind.Cost None None }
+{
+    Place {
+        number,
+        kind: Kind::Cost,
+        row: None,
+        column: None,
+    }
+}
+
+/// Works all parts of the table after the pivot into spare ones: the pivot row, the other rows, the basic values, whose
+/// elements in the entering column are `alpha`, and the reduced costs.
+pub fn work_swap<A: Arith>(
+    pivot: &Pivot,
+    alpha: &[Frac],
+    rows: &[Row],
+    values: &[Frac],
+    costs: &[Frac],
+    arith: &mut A,
+    by: &mut [Frac],
+    out_rows: &mut [Row],
+    out_values: &mut [Frac],
+    out_costs: &mut [Frac],
+) -> Result<(), Place>
+    requires wide { AreWide (length costs.now) rows.now }
+    requires values { length values.now ≡ length rows.now }
+    requires alpha { length alpha.now ≡ length rows.now }
+    requires column { pivot.now.column < length costs.now }
+    requires position { pivot.now.position < length rows.now }
+    requires element { at (get_or rows.now pivot.now.position []) pivot.now.column ≢ zero_ℚ }
+    requires few_columns { length costs.now < 2 ^ 32 }
+    requires few_rows { length rows.now < 2 ^ 32 }
+    requires spare_line { length by.old ≡ length costs.now }
+    requires spare_rows { length out_rows.old ≡ length rows.now }
+    requires spare_wide { AreWide (length costs.now) out_rows.old }
+    requires spare_values { length out_values.old ≡ length rows.now }
+    requires spare_costs { length out_costs.old ≡ length costs.now }
+    ensures answer { Judges (A.width arith.old) (swap_listing pivot.now alpha.now rows.now values.now costs.now) result }
+    ensures pivoted { OnOk result (ArePivoted pivot.now alpha.now rows.now values.now costs.now out_rows.new out_values.new out_costs.new) }
+    ensures spare_wide { AreWide (length costs.now) out_rows.new }
+    ensures width { A.width arith.new ≡ A.width arith.old }
+    ensures unfit { A.unfit_count arith.new ≡ counted (A.unfit_count arith.old) result }
+{
+    let number = pivot.number;
+    let position = pivot.position as usize;
+    let q = pivot.column;
+    let row = &rows[position];
+    let here = line_place(number, pivot.position);
+    if let Err(place) = divide_line(here, row.as_slice(), row.get(q), arith, by) {
+        return Err(place);
+    }
+    if let Err(place) = eliminate_all(number, position, q, by, rows, arith, out_rows) {
+        return Err(place);
+    }
+    let (down, rest, ratio) = (pivot.down, pivot.rest, pivot.ratio);
+    if let Err(place) = move_values(
+        number, position, down, rest, ratio, values, alpha, arith, out_values,
+    ) {
+        return Err(place);
+    }
+    subtract_line(costs_place(number), costs, costs[q], by, arith, out_costs)
+}

@@ -1,0 +1,50 @@
+//! What the structurals at their start leave of the right sides.
+ghost use Rattle.std.specs.Prelude.{◌≡◌, ◌<◌};
+ghost use Rattle.rational.specs.Sparse.{entry_at};
+ghost use Rattle.exact_frac.specs.Settles.{Settles, unfit_by};
+ghost use Rattle.lp_run.specs.Instance.{row_count, start_value as start_of_bounds, structural as structural_of, structural_count};
+ghost use Rattle.plain_table.specs.Inner.Starts.{residual_work};
+
+use exact_frac::{Arith, Frac, Unfit};
+use instance_model::{Bounds, Instance};
+use lp_model::Phase;
+use sparse_steps::less_product;
+
+/// The entry of a structural in a row.
+#[tactic(auto, using(exact_frac::specs::Constants::constants))]
+pub fn entry(inst: &Instance, structural: usize, row: usize) -> Frac
+    requires { structural < structural_count inst.now }
+    ensures { result ≡ entry_at (structural_of inst.now structural).entries row }
+{
+    inst.entries(structural).get(row).unwrap_or(Frac::ZERO)
+}
+
+// Where a column within these bounds starts: at the finite lower end, else at the finite upper end, else at 0.
+#[tactic(auto, using(exact_frac::specs::Constants::constants))]
+fn start_value(bounds: Bounds) -> Frac
+    ensures { result ≡ start_of_bounds bounds }
+{
+    match (bounds.lower(), bounds.upper()) {
+        (Some(lower), _) => lower,
+        (None, Some(upper)) => upper,
+        (None, None) => Frac::ZERO,
+    }
+}
+
+/// The right side of a row less the structurals at their start, in rising structurals.
+pub fn residual<A: Arith>(inst: &Instance, row: usize, arith: &mut A) -> Result<Frac, Unfit>
+    requires { row < row_count inst.now }
+    ensures settled { Settles (A.width arith.old) (residual_work inst.now row) result }
+    ensures width { A.width arith.new ≡ A.width arith.old }
+    ensures unfit { A.unfit_count arith.new ≡ unfit_by (A.unfit_count arith.old) result }
+{
+    let mut rest = inst.right(row);
+    for j in 0..inst.structurals() {
+        let value = start_value(inst.bounds(Phase::One, j));
+        match less_product(rest, entry(inst, j, row), value, arith) {
+            Ok(left) => rest = left,
+            Err(unfit) => return Err(unfit),
+        }
+    }
+    Ok(rest)
+}

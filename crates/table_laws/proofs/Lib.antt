@@ -1,0 +1,4 @@
+pub mod Tableaus
+pub mod Started
+pub mod Stepped
+pub mod Fitting

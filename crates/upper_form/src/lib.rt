@@ -1,0 +1,293 @@
+//! Triangular forms of a factorisation, and solving by them.
+//!
+//! **Model.** An [`Upper`] is seen as its columns by position, the row paired with each position, and the order of the
+//! positions (`Triangle` in `Upper` of `factor_model`). It is triangular: along the order no column has an entry in
+//! the row of a later position, and no diagonal is 0 (`IsUpper`).
+//!
+//! **Contract.** `solve` gives the x with U·x = v, `solve_back` the z with z·U = c. Each answers what the
+//! calculation settles to at the arithmetic's width, `Unfit` exactly where one of its worked values does not fit; it
+//! keeps the width, the count of unfit results rises by one exactly at `Unfit`, and the count of work rises at most by
+//! one and the number of its stored entries for each position. After `Unfit` the buffers hold anything.
+//!
+//! No call takes memory. It stands on `factor_model` for its definitions, on `sparse_steps` for its loops and on
+//! `order_chain` for the order.
+
+#![tactic(auto)]
+
+ghost use Rattle.std.specs.Prelude.{◌≡◌, ◌≢◌, ◌+◌, ◌≤◌, ◌<◌, length, replicate, reverse, ◌∷◌, Some, IfSome, OnOk, slice_set};
+ghost use Rattle.chain_links.specs.Lists.{rest};
+ghost use Rattle.rational.specs.Rational.{zero_ℚ};
+ghost use Rattle.exact_frac.specs.Settles.{Leaves, Settles, unfit_by};
+ghost use Rattle.factor_model.specs.Upper as upper;
+ghost use Rattle.factor_model.specs.Upper.{IsUpper, Solves, SolvesBack, by_position, place_one, solve_one, solve_rows, solve_work};
+
+use exact_frac::{Arith, Frac, Unfit};
+use order_chain::OrderChain;
+use sparse_cols::SparseCol;
+use sparse_steps::{gather, subtract};
+use std::marker::Model;
+
+/// A triangular form.
+#[derive(Drop)]
+pub struct Upper {
+    columns: Vec<SparseCol<Frac>>,
+    rows: Vec<u32>,
+    order: OrderChain,
+}
+
+impl Model for Upper {
+    ghost use Rattle.std.specs.Prelude.{length};
+    ghost use Rattle.factor_model.specs.Upper.{Triangle, IsUpper};
+
+    ghost Value = { Triangle };
+
+    ghost view = { λ u. record { columns = u.columns.items; rows = u.rows.items; order = u.order } };
+
+    ghost invariant = { λ u. IsUpper (length u.rows.items) (record { columns = u.columns.items; rows = u.rows.items; order = u.order }) };
+}
+
+impl Upper {
+    /// The form with these columns by position, the row paired with each position, and this order.
+    pub fn of(columns: Vec<SparseCol<Frac>>, rows: Vec<u32>, order: OrderChain) -> Upper
+        requires { IsUpper (length rows.items) (record { columns = columns.items; rows = rows.items; order = order }) }
+        ensures { result ≡ record { columns = columns.items; rows = rows.items; order = order } }
+    {
+        Upper {
+            columns,
+            rows,
+            order,
+        }
+    }
+
+    /// How many positions there are.
+    pub fn len(&self) -> usize
+        ensures value { result ≡ length self.now.rows }
+        ensures upper { IsUpper (length self.now.rows) self.now }
+    {
+        self.rows.len()
+    }
+
+    /// The entry of a position's column in the row paired with the position, which is not 0.
+    pub fn diagonal(&self, p: usize) -> Frac
+        requires { p < length self.now.rows }
+        ensures value { result ≡ upper.diagonal self.now p }
+        ensures nonzero { result ≢ zero_ℚ }
+    {
+        match self.columns[p].get(self.row_of(p)) {
+            Some(entry) => entry,
+            None => Frac::ZERO,
+        }
+    }
+
+    /// The order of the positions.
+    pub fn order(&self) -> &OrderChain
+        ensures { result.now ≡ self.now.order }
+    {
+        &self.order
+    }
+
+    /// The row paired with a position.
+    pub fn row_of(&self, p: usize) -> usize
+        requires { p < length self.now.rows }
+        ensures value { result ≡ upper.row_of self.now p }
+        ensures within { result < length self.now.rows }
+    {
+        self.rows[p] as usize
+    }
+
+    /// Solves U·x = v in place, by rows: position p's item of x is left in p's row. After `Unfit` the vector holds
+    /// anything.
+    pub fn solve_in_rows<A: Arith>(&self, v: &mut [Frac], arith: &mut A) -> Result<(), Unfit>
+        requires { length v.old ≡ length self.now.rows }
+        ensures settled { Leaves (A.width arith.old) (solve_rows self.now v.old (reverse self.now.order)) result v.new }
+        ensures width { A.width arith.new ≡ A.width arith.old }
+        ensures unfit { A.unfit_count arith.new ≡ unfit_by (A.unfit_count arith.old) result }
+        ensures work { A.work_count arith.new ≤ A.work_count arith.old + solve_work self.now (reverse self.now.order) }
+    {
+        let mut next = self.last();
+        while let Some(p) = next {
+            next = self.before(p);
+            match self.solve_position(p, v, arith) {
+                Ok(()) => {}
+                Err(unfit) => return Err(unfit),
+            }
+        }
+        Ok(())
+    }
+
+    // One position's step of `solve_in_rows`.
+    fn solve_position<A: Arith>(&self, p: usize, v: &mut [Frac], arith: &mut A) -> Result<(), Unfit>
+        requires position { p < length self.now.rows }
+        requires length { length v.old ≡ length self.now.rows }
+        ensures settled { Leaves (A.width arith.old) (solve_one self.now v.old p) result v.new }
+        ensures width { A.width arith.new ≡ A.width arith.old }
+        ensures unfit { A.unfit_count arith.new ≡ unfit_by (A.unfit_count arith.old) result }
+        ensures work { A.work_count arith.new ≤ A.work_count arith.old + (1 + length (upper.column self.now p)) }
+    {
+        let row = self.row_of(p);
+        let item = v[row];
+        match arith.div(item, self.diagonal(p)) {
+            Ok(x) => self.place(p, row, x, v, arith),
+            Err(unfit) => Err(unfit),
+        }
+    }
+
+    // Takes x times the column of p from the vector, and leaves x in p's row.
+    fn place<A: Arith>(
+        &self,
+        p: usize,
+        row: usize,
+        x: Frac,
+        v: &mut [Frac],
+        arith: &mut A,
+    ) -> Result<(), Unfit>
+        requires position { p < length self.now.rows }
+        requires row { row ≡ upper.row_of self.now p }
+        requires length { length v.old ≡ length self.now.rows }
+        ensures settled { Leaves (A.width arith.old) (place_one self.now v.old p x) result v.new }
+        ensures width { A.width arith.new ≡ A.width arith.old }
+        ensures unfit { A.unfit_count arith.new ≡ unfit_by (A.unfit_count arith.old) result }
+        ensures work { A.work_count arith.new ≤ A.work_count arith.old + length (upper.column self.now p) }
+    {
+        match subtract(row, x, v, &self.columns[p], arith) {
+            Ok(()) => {
+                v[row] = x;
+                Ok(())
+            }
+            Err(unfit) => Err(unfit),
+        }
+    }
+
+    // The last position.
+    fn last(&self) -> Option<usize>
+        ensures rest { rest result (reverse self.now.order) ≡ reverse self.now.order }
+        ensures position { IfSome result (λ p. p < length self.now.rows) }
+    {
+        self.order.last()
+    }
+
+    // The position before `p`.
+    fn before(&self, p: usize) -> Option<usize>
+        requires { p < length self.now.rows }
+        ensures rest { rest (Some p) (reverse self.now.order) ≡ p ∷ rest result (reverse self.now.order) }
+        ensures position { IfSome result (λ q. q < length self.now.rows) }
+    {
+        self.order.before(p)
+    }
+
+    /// Solves U·x = v: `out` has position p's item of x. The vector `v` is used up. After `Unfit` both hold anything.
+    pub fn solve<A: Arith>(
+        &self,
+        v: &mut [Frac],
+        out: &mut [Frac],
+        arith: &mut A,
+    ) -> Result<(), Unfit>
+        requires vector { length v.old ≡ length self.now.rows }
+        requires length { length out.old ≡ length self.now.rows }
+        ensures settled { Leaves (A.width arith.old) (upper.solve self.now v.old) result out.new }
+        ensures solves { OnOk result (Solves self.now out.new v.old) }
+        ensures width { A.width arith.new ≡ A.width arith.old }
+        ensures unfit { A.unfit_count arith.new ≡ unfit_by (A.unfit_count arith.old) result }
+        ensures work { A.work_count arith.new ≤ A.work_count arith.old + solve_work self.now (reverse self.now.order) }
+    {
+        let _ = &self.columns;
+        match self.solve_in_rows(v, arith) {
+            Ok(()) => {
+                self.copy_by_position(v, out);
+                Ok(())
+            }
+            Err(unfit) => Err(unfit),
+        }
+    }
+
+    // Copies the item of each position's row to the position.
+    fn copy_by_position(&self, rows: &[Frac], out: &mut [Frac])
+        requires rows { length rows.now ≡ length self.now.rows }
+        requires length { length out.old ≡ length self.now.rows }
+        ensures { out.new ≡ by_position self.now rows.now }
+    {
+        for p in 0..out.len() {
+            let row = self.row_of(p);
+            out[p] = rows[row];
+        }
+    }
+
+    /// Solves z·U = c: `out` has the item of z for each row. After `Unfit` it holds anything.
+    pub fn solve_back<A: Arith>(
+        &self,
+        c: &[Frac],
+        out: &mut [Frac],
+        arith: &mut A,
+    ) -> Result<(), Unfit>
+        requires vector { length c.now ≡ length self.now.rows }
+        requires length { length out.old ≡ length self.now.rows }
+        ensures settled { Leaves (A.width arith.old) (upper.solve_back self.now c.now) result out.new }
+        ensures solves { OnOk result (SolvesBack self.now out.new c.now) }
+        ensures width { A.width arith.new ≡ A.width arith.old }
+        ensures unfit { A.unfit_count arith.new ≡ unfit_by (A.unfit_count arith.old) result }
+        ensures work { A.work_count arith.new ≤ A.work_count arith.old + solve_work self.now self.now.order }
+    {
+        let _ = &self.columns;
+        clear(out);
+        let mut next = self.first();
+        while let Some(p) = next {
+            next = self.after(p);
+            match self.back_item(p, c, out, arith) {
+                Ok(item) => out[self.row_of(p)] = item,
+                Err(unfit) => return Err(unfit),
+            }
+        }
+        Ok(())
+    }
+
+    // The item of z in a position's row, where those of all earlier positions are known.
+    fn back_item<A: Arith>(
+        &self,
+        p: usize,
+        c: &[Frac],
+        z: &[Frac],
+        arith: &mut A,
+    ) -> Result<Frac, Unfit>
+        requires position { p < length self.now.rows }
+        requires vector { length c.now ≡ length self.now.rows }
+        requires length { length z.now ≡ length self.now.rows }
+        ensures settled { Settles (A.width arith.old) (upper.back_item self.now c.now z.now p) result }
+        ensures width { A.width arith.new ≡ A.width arith.old }
+        ensures unfit { A.unfit_count arith.new ≡ unfit_by (A.unfit_count arith.old) result }
+        ensures work { A.work_count arith.new ≤ A.work_count arith.old + (1 + length (upper.column self.now p)) }
+    {
+        let row = self.row_of(p);
+        let cost = c[p];
+        match gather(row, z, cost, &self.columns[p], arith) {
+            Ok(rest) => arith.div(rest, self.diagonal(p)),
+            Err(unfit) => Err(unfit),
+        }
+    }
+
+    // The first position.
+    fn first(&self) -> Option<usize>
+        ensures rest { rest result self.now.order ≡ self.now.order }
+        ensures position { IfSome result (λ p. p < length self.now.rows) }
+    {
+        self.order.first()
+    }
+
+    // The position behind `p`.
+    fn after(&self, p: usize) -> Option<usize>
+        requires { p < length self.now.rows }
+        ensures rest { rest (Some p) self.now.order ≡ p ∷ rest result self.now.order }
+        ensures position { IfSome result (λ q. q < length self.now.rows) }
+    {
+        self.order.after(p)
+    }
+}
+
+// Makes all items 0.
+#[tactic(auto, using(exact_frac::specs::Constants::constants))]
+fn clear(out: &mut [Frac])
+    ensures { out.new ≡ replicate (length out.old) zero_ℚ }
+{
+    for x in out.iter_mut() {
+        *x = Frac::ZERO;
+    }
+}

@@ -1,0 +1,132 @@
+"""Draws decks: by changes of lines, and from nothing."""
+from second_reader import BYTES, COLUMNS, ENTRIES, ROWS
+
+PIECES = [
+    piece.encode()
+    for piece in (
+        "1E30 -1e30 1D2 .5 -.5 1E31 999999999E30 5. . +3 -0 0 1/2 'MARKER' RHS RANGES BOUNDS ENDATA NAME ROWS COLUMNS".split()
+        + [" N  X", " E  LIM1", " G  ", "* x\t", "\t", "\r", "", " UP", " LO", " FX", " FR", " MI", " PL", " BV", " SC", " XX"]
+    )
+]
+
+
+def put(line, column, piece, width):
+    """The line with a piece from a column on, of this width."""
+    line = line.ljust(column - 1 + width)
+    return line[: column - 1] + piece[:width].ljust(width) + line[column - 1 + width :]
+
+
+def change(lines, chance):
+    """Changes a line or two."""
+    here, there = chance.randrange(len(lines)), chance.randrange(len(lines))
+    line, other = lines[here], lines[there]
+    piece = chance.choice(PIECES)
+    kind = chance.randrange(9)
+    if kind == 0:
+        del lines[here]
+    elif kind == 1:
+        lines.insert(here, other)
+    elif kind == 2:
+        lines[here], lines[there] = other, line
+    elif kind == 3:
+        at = chance.randrange(len(line) + 1)
+        lines[here] = line[:at] + bytes([chance.choice(b" 0123456789.-+EeDdXN*\tA")]) + line[at + 1 :]
+    elif kind == 4:
+        lines[here] = line[: chance.randrange(len(line) + 1)]
+    elif kind == 5:
+        lines[here] = piece
+    elif kind == 6:
+        lines[here] = put(line, 25, piece, 12)
+    elif kind == 7:
+        column = chance.choice((5, 15))
+        lines[here] = put(line, column, other[column - 1 : column + 7], 8)
+    else:
+        lines[here] = put(line, 1, piece, 3)
+
+
+def card(kind, first, *pairs):
+    """A card of data: its kind, its first name, and one or two pairs of a name and a number."""
+    line = f" {kind:<2} {first:<10}" + "   ".join(f"{name:<10}{number:<12}" for name, number in pairs)
+    return line.rstrip(" ").encode()
+
+
+class Draw:
+    """A deck written from nothing: a simple one, or one with all kinds of rows and bounds."""
+
+    def __init__(self, chance, is_simple):
+        self.chance, self.is_simple = chance, is_simple
+        self.m, self.n = chance.choice((0, 1, 1, 2, 2, 3, 3, 4, 5, 6, 8)), chance.choice((0, 1, 2, 2, 3, 3, 4, 5, 6, 8))
+        self.is_wide = chance.random() < 0.1
+        self.m, self.n = (9, 9) if self.is_wide else (self.m, self.n)
+        self.rows = [f"R{i}" for i in range(self.m)]
+        self.columns = [chance.choice((f"X{j}", f"X {j}", f"x.{j}")) for j in range(self.n)]
+
+    def number(self, least=-4):
+        """The text of a number from so much on."""
+        chance = self.chance
+        if self.is_wide:
+            text = f"{chance.randrange(10**5, 10**6)}.{chance.randrange(1, 10**4)}"
+            return ("-" if least < 0 and chance.random() < 0.3 else "") + text
+        value = chance.randrange(least, 7)
+        sign = "+" if value >= 0 and chance.random() < 0.1 else ""
+        return f"{sign}{value}" + chance.choice(("",) * 7 + (".", ".5", ".25", "E1", "D-1", "e+0"))
+
+    def pairs(self, first, found):
+        """The cards of pairs, one or two pairs each."""
+        lines = []
+        while found:
+            take = self.chance.choice((1, 2))
+            lines.append(card("", first, *found[:take]))
+            found = found[take:]
+        return lines
+
+    def lines(self):
+        chance, dense = self.chance, self.chance.choice((0.3, 0.6, 0.9))
+        kinds = ["L" if self.is_simple else chance.choice("LLGE") for _ in self.rows]
+        lines = [b"NAME          DRAWN", b"ROWS", card("N", "COST")]
+        for kind, name in zip(kinds, self.rows):
+            lines.append(card(kind, name))
+            lines += [card("N", f"FREE{len(lines)}")] * (chance.random() < 0.05)
+        lines.append(b"COLUMNS")
+        for name in self.columns:
+            found = [("COST", self.number(-6))] if chance.random() < 0.9 else []
+            found += [(row, self.number()) for row in self.rows if chance.random() < dense]
+            lines += self.pairs(name, found or [("COST", "0")])
+        lines += self.rights() + (self.ranges() + self.bounds() if not self.is_simple else [])
+        return [*lines, b"ENDATA", b""]
+
+    def rights(self):
+        chance, least = self.chance, 0 if self.is_simple else -4
+        found = [(row, self.number(least)) for row in self.rows if chance.random() < 0.8]
+        found += [("COST", self.number())] if chance.random() < 0.1 else []
+        return [b"RHS", *self.pairs("S", found)] if found else []
+
+    def ranges(self):
+        found = [(row, self.number()) for row in self.rows if self.chance.random() < 0.3]
+        return [b"RANGES", *self.pairs("S", found)] if found else []
+
+    def bounds(self):
+        lines = []
+        for name in self.columns:
+            for _ in range(self.chance.choice((0, 0, 1, 1, 2, 3))):
+                kind = self.chance.choice(("UP", "LO", "UP", "LO", "FX", "FR", "MI", "PL"))
+                number = self.chance.choice(("1E30", "-1E30")) if self.chance.random() < 0.05 else self.number()
+                lines.append(card(kind, "S", (name, number)))
+        return [b"BOUNDS", *lines] if lines else []
+
+
+def past(limit, lines):
+    """A deck that passes a limit, made of another's lines: before the card of its columns, or before its last line."""
+    if limit == "rows":
+        more = [card("G", f"M{i}") for i in range(ROWS + 1)]
+    elif limit == "columns":
+        more = [card("", f"M{i}", ("COST", 1)) for i in range(COLUMNS + 1)]
+    elif limit == "entries":
+        tall = ROWS // 2
+        return [b"ROWS", card("N", "COST"), *[card("L", f"M{i}") for i in range(tall)], b"COLUMNS"] + [
+            card("", f"M{j}", (f"M{i}", 1), (f"M{i + 1}", 1)) for j in range(ENTRIES // tall + 1) for i in range(0, tall - 1, 2)
+        ]
+    else:
+        more = [b"*" + b"x" * 999] * (BYTES // 1000 + 1)
+    at = lines.index(b"COLUMNS") + (limit == "columns")
+    return lines[:at] + more + lines[at:]

@@ -1,0 +1,127 @@
+"""Judges what the built program answers to a text, by the second reader, the second solver, the second checker, and `glpsol --exact` where that is there."""
+import os
+import shutil
+import subprocess
+import sys
+import tempfile
+
+from second_checker import Broken, Flaw, check, parse
+from second_reader import Fault, read
+from second_solver import Overflow, report_text, solve
+
+HERE = os.path.dirname(os.path.dirname(os.path.abspath(__file__)))
+LP = os.path.join(HERE, "crates", "lp_main", "out", "lp_main")
+WORDS = ["solve", "--workers", "0"]
+# What the program serves: all decks or simple ones alone (the others, and those without end, are answered as `later`), and the place of an overflow.
+SERVES_ALL = False
+TELLS_PLACES = False
+GLPSOL = shutil.which("glpsol")
+
+
+def make_sure():
+    """Builds the program, or ends this run with the build's status."""
+    built = subprocess.run([os.path.join(HERE, "tools", "build")], stdin=subprocess.DEVNULL)
+    if built.returncode:
+        sys.exit(built.returncode)
+
+
+def decimal(value):
+    """The decimal text of a number that has one, without an exponent."""
+    places = 0
+    while 10**places % value.denominator:
+        places += 1
+    digits = str(abs(value.numerator) * (10**places // value.denominator)).rjust(places + 1, "0")
+    return ("-" if value < 0 else "") + (digits[:-places] + "." + digits[-places:] if places else digits)
+
+
+def free_text(deck):
+    """The deck in the free form of MPS that glpsol reads, without its constant."""
+    lines = ["NAME T", "ROWS", " N Z", *[f" {row.kind} R{i}" for i, row in enumerate(deck.rows)], "COLUMNS"]
+    for j, column in enumerate(deck.columns):
+        lines.append(f" C{j} Z {decimal(column.cost)}")
+        lines += [f" C{j} R{i} {decimal(value)}" for i, value in column.entries.items()]
+    lines += ["RHS", *[f" S R{i} {decimal(row.right)}" for i, row in enumerate(deck.rows) if row.right]]
+    lines += ["RANGES", *[f" S R{i} {decimal(row.range)}" for i, row in enumerate(deck.rows) if row.range is not None]]
+    lines.append("BOUNDS")
+    for j, column in enumerate(deck.columns):
+        lines.append(f" MI B C{j}" if column.lower is None else f" LO B C{j} {decimal(column.lower)}")
+        lines += [] if column.upper is None else [f" UP B C{j} {decimal(column.upper)}"]
+    return "\n".join([*lines, "ENDATA", ""])
+
+
+def objective_by_glpsol(deck):
+    """The best objective that glpsol finds, as it prints it; or none, where it is not there, does not end soon, or does not take the deck as optimal."""
+    if GLPSOL is None or not deck.rows or not deck.columns:
+        return None
+    with tempfile.TemporaryDirectory() as room:
+        with open(f"{room}/deck", "w", encoding="ascii") as text:
+            text.write(free_text(deck))
+        sense = "--min" if deck.sense > 0 else "--max"
+        try:
+            subprocess.run([GLPSOL, "--exact", sense, "--freemps", f"{room}/deck", "--write", f"{room}/found"], capture_output=True, timeout=5)
+        except subprocess.TimeoutExpired:
+            return None
+        if not os.path.exists(f"{room}/found"):
+            return None
+        with open(f"{room}/found", encoding="ascii") as found:
+            parts = next(line.split() for line in found if line.startswith("s bas "))
+    return float(parts[6]) if parts[4:6] == ["f", "f"] else None
+
+
+def is_near(found, value):
+    return abs(found - float(value)) <= 1e-8 * max(1.0, abs(float(value)))
+
+
+def wanted(text, by_solver=True):
+    """What the program must answer: a kind, the status, the line on standard error, the bytes written (none: a report to be judged), and a solved deck."""
+    try:
+        deck = read(text)
+    except Fault as fault:
+        line = str(fault)
+        kind = line.split(": ", 2)[-1].split(" after ")[0].rstrip(" 0123456789")
+        return kind, 3, line, b"", None
+    later = "later", 3, f"lp: line {deck.last_line}: later", b"", None
+    if not SERVES_ALL and not deck.is_simple():
+        return later
+    if not by_solver:
+        return "solved", 0, "", None, deck
+    try:
+        solved = solve(deck)
+    except Overflow as place:
+        return "overflow", 6, str(place) if TELLS_PLACES else "lp: overflow", b"", None
+    if not SERVES_ALL and solved.outcome == "UNBOUNDED":
+        return later
+    return solved.outcome.lower(), 0, "", report_text(deck, solved, "--log" in WORDS), deck
+
+
+def fault_of_report(deck, written):
+    """What is wrong with a report that was written, by the second checker and by glpsol; none where nothing is."""
+    try:
+        report = parse(deck, written)
+        check(deck, report, width=None)
+    except Flaw as flaw:
+        return f"line {flaw.args[0]} of the report: {flaw.args[1]}"
+    except Broken as rule:
+        return f"the report breaks the rule {rule}"
+    if report.outcome == "OPTIMAL":
+        found = objective_by_glpsol(deck)
+        if found is not None and not is_near(found, report.objective - deck.constant):
+            return f"glpsol finds the objective {found}, without the constant"
+    return None
+
+
+def judge(text, by_solver=True):
+    """The kind of answer that a text must have, and what is wrong with the program's, if anything is."""
+    kind, status, line, bytes_written, deck = wanted(text, by_solver)
+    done = subprocess.run([LP, *WORDS], input=text, capture_output=True, timeout=120)
+    said = done.stderr.decode(errors="replace").removesuffix("\n")
+    if (done.returncode, said) != (status, line):
+        return kind, f"status {done.returncode} and the line '{said[:200]}' in place of {status} and '{line}'"
+    if deck is not None:
+        why = fault_of_report(deck, done.stdout)
+        if why:
+            return kind, why
+    if bytes_written is not None and done.stdout != bytes_written:
+        return kind, f"it wrote {done.stdout[:300]} in place of {bytes_written[:300]}"
+    return kind, None
+
