@@ -51,7 +51,7 @@ def card(kind, first, *pairs):
 
 
 class Draw:
-    """A deck written from nothing: a simple one, or one with all kinds of rows and bounds."""
+    """A deck written from nothing: a simple one (rows of the kind L alone, right sides from 0 up, columns from 0 up), or one with all kinds of rows and bounds."""
 
     def __init__(self, chance, is_simple):
         self.chance, self.is_simple = chance, is_simple
@@ -64,6 +64,8 @@ class Draw:
     def number(self, least=-4):
         """The text of a number from so much on."""
         chance = self.chance
+        if self.is_wide and chance.random() < 0.2:
+            return f"{'-' if least < 0 and chance.random() < 0.3 else ''}{chance.randrange(1, 10)}E{chance.randrange(5, 25)}"
         if self.is_wide:
             text = f"{chance.randrange(10**5, 10**6)}.{chance.randrange(1, 10**4)}"
             return ("-" if least < 0 and chance.random() < 0.3 else "") + text

@@ -7,14 +7,11 @@ import tempfile
 
 from second_checker import Broken, Flaw, check, parse
 from second_reader import Fault, read
-from second_solver import Overflow, report_text, solve
+from second_solver import Overflow, Spent, report_text, solve
 
 HERE = os.path.dirname(os.path.dirname(os.path.abspath(__file__)))
 LP = os.path.join(HERE, "crates", "lp_main", "out", "lp_main")
 WORDS = ["solve", "--workers", "0"]
-# What the program serves: all decks or simple ones alone (the others, and those without end, are answered as `later`), and the place of an overflow.
-SERVES_ALL = False
-TELLS_PLACES = False
 GLPSOL = shutil.which("glpsol")
 
 
@@ -73,24 +70,24 @@ def is_near(found, value):
 
 
 def wanted(text, by_solver=True):
-    """What the program must answer: a kind, the status, the line on standard error, the bytes written (none: a report to be judged), and a solved deck."""
+    """What the program must answer: a kind, the status, the line on standard error, the bytes written (none: a report to be judged), and a solved deck.
+
+    A deck has one run, so the second solver's report is the program's byte for byte, and so is the place of the first value that does not fit.
+    """
     try:
         deck = read(text)
     except Fault as fault:
         line = str(fault)
         kind = line.split(": ", 2)[-1].split(" after ")[0].rstrip(" 0123456789")
         return kind, 3, line, b"", None
-    later = "later", 3, f"lp: line {deck.last_line}: later", b"", None
-    if not SERVES_ALL and not deck.is_simple():
-        return later
     if not by_solver:
         return "solved", 0, "", None, deck
     try:
         solved = solve(deck)
     except Overflow as place:
-        return "overflow", 6, str(place) if TELLS_PLACES else "lp: overflow", b"", None
-    if not SERVES_ALL and solved.outcome == "UNBOUNDED":
-        return later
+        return f"overflow of {place.kind}", 6, str(place), b"", None
+    except Spent as spent:
+        return "budget", 7, f"lp: budget spent after {spent} moves", b"", None
     return solved.outcome.lower(), 0, "", report_text(deck, solved, "--log" in WORDS), deck
 
 
@@ -110,10 +107,13 @@ def fault_of_report(deck, written):
     return None
 
 
-def judge(text, by_solver=True):
+def judge(text, by_solver=True, seconds=120):
     """The kind of answer that a text must have, and what is wrong with the program's, if anything is."""
     kind, status, line, bytes_written, deck = wanted(text, by_solver)
-    done = subprocess.run([LP, *WORDS], input=text, capture_output=True, timeout=120)
+    try:
+        done = subprocess.run([LP, *WORDS], input=text, capture_output=True, timeout=seconds)
+    except subprocess.TimeoutExpired:
+        return kind, f"it does not end within {seconds} seconds"
     said = done.stderr.decode(errors="replace").removesuffix("\n")
     if (done.returncode, said) != (status, line):
         return kind, f"status {done.returncode} and the line '{said[:200]}' in place of {status} and '{line}'"

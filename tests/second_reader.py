@@ -70,11 +70,6 @@ class Deck:
     last_line: int
     sense: int = 1
 
-    def is_simple(self):
-        return all(row.kind == "L" and row.range is None and row.right >= 0 for row in self.rows) and all(
-            (column.lower, column.upper) == (0, None) for column in self.columns
-        )
-
 
 def number(text):
     """The value of a number field, or none."""

@@ -21,6 +21,10 @@ ZERO, ONE = Fraction(0), Fraction(1)
 class Overflow(Exception):
     """The first value that does not fit: its number, kind, row and column."""
 
+    @property
+    def kind(self):
+        return self.args[1]
+
     def __str__(self):
         number, kind, row, column = self.args
         return f"lp: overflow at number {number}, {kind}, row {'-' if row is None else row}, column {'-' if column is None else column}"

@@ -16,7 +16,7 @@ use Rattle.bland_ratio.specs.declared.tickets.Choice.{Choice}
 use Rattle.bland_ratio.specs.declared.tickets.Pay.{Pay}
 use Rattle.bland_ratio.specs.declared.tickets.Pay.TheVariants as pay
 use Rattle.bland_ratio.specs.declared.tickets.Ticket.{Ticket}
-use Rattle.bland_ratio.specs.Pricing.{HasCost, HasUnfitCost, IsChoiceOf, IsEligibleAt, IsExactChoice, IsExactPay, IsExactTicket, IsFirstStopper, NoneStops, priced, status_at}
+use Rattle.bland_ratio.specs.Pricing.{ChoiceEnters, HasCost, HasUnfitCost, IsChoiceOf, IsEligibleAt, IsExactChoice, IsExactPay, IsExactTicket, IsFirstStopper, NoneStops, priced, status_at}
 use Rattle.bland_ratio.proofs.Priced.{priced-answer}
 use Rattle.bland_ratio.proofs.Stopping.{not_basic}
 
@@ -91,5 +91,5 @@ module _ (inst : Instance) (well_formed : IsWellFormed inst) (s : State) (ticket
 
 -- an exact choice that is not unfit has the entering column, or none may enter
 pub exact_choice_enters : (w : ℕ) (inst : Instance) (s : State) (choice : Choice) → IsWellFormed inst → IsExactChoice w inst s choice → choice.unfit ≡ false
-    → (y : List ℚ) × Prices inst s y × MatchOption choice.stopper (NoneEligible inst s y) (Enters inst s y)
+    → ChoiceEnters inst s choice
 exact_choice_enters w inst s choice well_formed (ticket, exact, is) fit = choice_enters inst well_formed s ticket exact w choice is fit

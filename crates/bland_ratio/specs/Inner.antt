@@ -1,3 +1,2 @@
 -- inner: what the helpers of the calls answer.
 pub mod Limits
-pub mod Stopping

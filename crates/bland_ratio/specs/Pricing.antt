@@ -1,5 +1,5 @@
 -- What a ticket asks of the columns, and what a choice answers (Bland 1977).
-use Rattle.std.specs.Prelude.{◌≡◌, ◌≢◌, ℕ, ◌<◌, ◌≤◌, List, [], ◌∷◌, length, get_or, Option, Some, None, Bool, true, false, IsFalse, if◌then◌else◌}
+use Rattle.std.specs.Prelude.{◌≡◌, ◌≢◌, ℕ, ◌<◌, ◌≤◌, List, [], ◌∷◌, length, get_or, Option, Some, None, Bool, true, false, IsFalse, MatchOption, if◌then◌else◌}
 use Rattle.std.specs.Option.{option_map}
 use Rattle.lp_model.specs.declared.Phase.{Phase}
 use Rattle.lp_model.specs.declared.Status.{Status}
@@ -14,7 +14,7 @@ use Rattle.lp_run.specs.declared.ColumnKind.TheVariants as column
 use Rattle.lp_run.specs.Instance.{Instance, bounds, column_count, column_kind, cost, passed_side, row_count, sign_past, structural}
 use Rattle.lp_run.specs.Solution.{Prices, reduced}
 use Rattle.lp_run.specs.State.{State}
-use Rattle.lp_run.specs.Step.{Improves, is_fixed}
+use Rattle.lp_run.specs.Step.{Enters, Improves, NoneEligible, is_fixed}
 use Rattle.bland_ratio.specs.declared.tickets.Choice.{Choice}
 use Rattle.bland_ratio.specs.declared.tickets.Pay.{Pay}
 use Rattle.bland_ratio.specs.declared.tickets.Pay.TheVariants as pay
@@ -109,3 +109,7 @@ pub record IsExactTicket (inst : Instance) (s : State) (ticket : Ticket) : Type 
 -- the choice is that of an exact ticket
 abbrev pub IsExactChoice : ℕ → Instance → State → Choice → Type 0
 IsExactChoice w inst s choice = (ticket : Ticket) × IsExactTicket inst s ticket × IsChoiceOf w inst ticket choice
+
+-- the column of the choice enters at the state, and where the choice has none, none is eligible
+abbrev pub ChoiceEnters : Instance → State → Choice → Type 0
+ChoiceEnters inst s choice = (y : List ℚ) × Prices inst s y × MatchOption choice.stopper (NoneEligible inst s y) (Enters inst s y)

@@ -1,15 +1,16 @@
 //! The entering column.
-ghost use Rattle.std.specs.Prelude.{◌≡◌, ◌+◌, ◌*◌, ◌-◌, ◌<◌, ◌≤◌, ◌↔◌, ℕ, Bool, length, IsTrue, MatchOption, MatchResult};
-ghost use Rattle.exact_frac.specs.Settles.{Settles, unfit_by};
-ghost use Rattle.lp_run.specs.Instance.{column_count, row_count, sign_past};
+ghost use Rattle.std.specs.Prelude.{◌≡◌, ◌+◌, ◌*◌, ◌-◌, ◌<◌, ◌≤◌, ◌↔◌, ℕ, Bool, false, length, IsTrue, MatchOption, MatchResult};
+ghost use Rattle.std.specs.Option.{unwrap_or};
+ghost use Rattle.exact_frac.specs.Count.{unfit_after};
+ghost use Rattle.exact_frac.specs.Settles.{Settles};
+ghost use Rattle.lp_run.specs.Instance.{column_count, row_count};
 ghost use Rattle.lp_run.specs.Step.{Improves};
 ghost use Rattle.bland_ratio.specs.Pricing.{HasCost, HasUnfitCost, IsChoiceOf, IsEligibleAt, IsFirstStopper, IsLookedAt, IsTicketOf, Stops, is_unfit, priced, unfit_where};
-ghost use Rattle.bland_ratio.specs.Inner.Stopping.{unfit_stop};
 
 use crate::tickets::{Choice, Pay, Ticket};
 use exact_frac::{Arith, Frac, Unfit};
 use instance_model::Instance;
-use lp_model::{Phase, Side, Status};
+use lp_model::{Phase, Status};
 use lp_run::ColumnKind;
 use sparse_steps::{gather, less_product};
 
@@ -96,7 +97,7 @@ fn stop<A: Arith>(inst: &Instance, ticket: &Ticket, j: usize, arith: &mut A) -> 
     requires column { j < column_count inst.now }
     ensures stops { MatchOption result ((unfit : Bool) → Stops (A.width arith.old) inst.now ticket.now j unfit → ⊥) (Stops (A.width arith.old) inst.now ticket.now j) }
     ensures width { A.width arith.new ≡ A.width arith.old }
-    ensures unfit { A.unfit_count arith.new ≡ unfit_where (A.unfit_count arith.old) (unfit_stop result) }
+    ensures unfit { A.unfit_count arith.new ≡ unfit_where (A.unfit_count arith.old) (unwrap_or result false) }
     ensures work { A.work_count arith.new ≤ A.work_count arith.old + row_count inst.now }
 {
     if !is_looked_at(inst, ticket, j) {
@@ -104,7 +105,7 @@ fn stop<A: Arith>(inst: &Instance, ticket: &Ticket, j: usize, arith: &mut A) -> 
     }
     match cost_of(inst, ticket, j, arith) {
         Ok(d) => {
-            if eligible(inst, ticket, j, d) {
+            if improves(ticket.status.get(j), d) {
                 Some(false)
             } else {
                 None
@@ -120,10 +121,10 @@ fn is_looked_at(inst: &Instance, ticket: &Ticket, j: usize) -> bool
     requires column { j < column_count inst.now }
     ensures { IsTrue result ↔ IsLookedAt inst.now ticket.now j }
 {
-    if inst.bounds(ticket.phase, j).is_fixed() {
+    if is_basic(ticket.status.get(j)) {
         return false;
     }
-    !is_basic(ticket.status.get(j))
+    !inst.bounds(ticket.phase, j).is_fixed()
 }
 
 // Whether a column with that status is basic.
@@ -133,9 +134,10 @@ fn is_basic(status: Status) -> bool
     status == Status::Basic
 }
 
-// Whether a column with that status may enter at the reduced cost.
+/// Whether a column with that status improves at that reduced cost: it is below 0 at `Lower`, above 0 at `Upper`, or
+/// not 0 at `Zero`.
 #[tactic(auto, using(exact_frac::specs::Constants::constants))]
-fn improves(status: Status, d: Frac) -> bool
+pub fn improves(status: Status, d: Frac) -> bool
     ensures { IsTrue result ↔ Improves status d }
 {
     match status {
@@ -157,7 +159,7 @@ fn cost_of<A: Arith>(
     requires column { j < column_count inst.now }
     ensures cost { MatchResult result (HasCost (A.width arith.old) inst.now ticket.now.phase ticket.now.pay j) (λ _. HasUnfitCost (A.width arith.old) inst.now ticket.now.phase ticket.now.pay j) }
     ensures width { A.width arith.new ≡ A.width arith.old }
-    ensures unfit { A.unfit_count arith.new ≡ unfit_by (A.unfit_count arith.old) result }
+    ensures unfit { A.unfit_count arith.new ≡ unfit_after (A.unfit_count arith.old) result }
     ensures work { A.work_count arith.new ≤ A.work_count arith.old + row_count inst.now }
 {
     match &ticket.pay {
@@ -179,7 +181,7 @@ fn price<A: Arith>(
     requires prices { length prices.now ≡ row_count inst.now }
     ensures settled { Settles (A.width arith.old) (priced inst.now phase prices.now j) result }
     ensures width { A.width arith.new ≡ A.width arith.old }
-    ensures unfit { A.unfit_count arith.new ≡ unfit_by (A.unfit_count arith.old) result }
+    ensures unfit { A.unfit_count arith.new ≡ unfit_after (A.unfit_count arith.old) result }
     ensures work { A.work_count arith.new ≤ A.work_count arith.old + row_count inst.now }
 {
     let rows = inst.rows();
@@ -187,23 +189,6 @@ fn price<A: Arith>(
     match inst.kind(j) {
         ColumnKind::Structural(k) => gather(rows, prices, cost, inst.entries(k), arith),
         ColumnKind::Logical(i) => less_product(cost, Frac::ONE, prices[i], arith),
-        ColumnKind::Artificial(i) => less_product(
-            cost,
-            sign_past(inst.passed(i)),
-            prices[i],
-            arith,
-        ),
-    }
-}
-
-// The entry of the artificial of a row, by the end that the row's residual passes.
-#[tactic(auto, using(exact_frac::specs::Constants::constants))]
-fn sign_past(passed: Option<Side>) -> Frac
-    ensures { result ≡ sign_past passed }
-{
-    match passed {
-        Some(Side::Lower) => Frac::ONE.negated(),
-        Some(Side::Upper) => Frac::ONE,
-        None => Frac::ONE,
+        ColumnKind::Artificial(i) => less_product(cost, inst.sign(i), prices[i], arith),
     }
 }

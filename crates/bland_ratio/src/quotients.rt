@@ -3,7 +3,8 @@ ghost use Rattle.std.specs.Prelude.{◌≡◌, ◌≢◌, ◌+◌, ◌<◌, ◌�
 ghost use Rattle.rational.specs.Rational.{zero_ℚ, ◌*ℚ◌, abs_ℚ, cmp_ℚ, neg_ℚ};
 ghost use Rattle.exact_frac.specs.Exact.{Exact};
 ghost use Rattle.exact_frac.specs.Count.{unfit_after};
-ghost use Rattle.exact_frac.specs.Settles.{Settles, unfit_by};
+ghost use Rattle.exact_frac.specs.Count.{unfit_after};
+ghost use Rattle.exact_frac.specs.Settles.{Settles};
 ghost use Rattle.lp_run.specs.Instance.{row_count};
 ghost use Rattle.bland_ratio.specs.Leave.{IsBasisOf, direction_where};
 ghost use Rattle.bland_ratio.specs.Inner.Limits as limits;
@@ -70,7 +71,7 @@ fn limit_to<A: Arith>(
     requires { alpha ≢ zero_ℚ }
     ensures settled { Settles (A.width arith.old) (limits.limit_by ahead value alpha column position) result }
     ensures width { A.width arith.new ≡ A.width arith.old }
-    ensures unfit { A.unfit_count arith.new ≡ unfit_by (A.unfit_count arith.old) result }
+    ensures unfit { A.unfit_count arith.new ≡ unfit_after (A.unfit_count arith.old) result }
     ensures work { A.work_count arith.new ≤ A.work_count arith.old + 1 }
 {
     let Some(ahead) = ahead else { return Ok(None) };
@@ -103,7 +104,7 @@ pub fn position_limit<A: Arith>(
     requires position { position < row_count inst.now }
     ensures settled { Settles (A.width arith.old) (limits.limit_work inst.now state.now (direction_where down) values.now alpha.now position) result }
     ensures width { A.width arith.new ≡ A.width arith.old }
-    ensures unfit { A.unfit_count arith.new ≡ unfit_by (A.unfit_count arith.old) result }
+    ensures unfit { A.unfit_count arith.new ≡ unfit_after (A.unfit_count arith.old) result }
     ensures work { A.work_count arith.new ≤ A.work_count arith.old + 1 }
 {
     let element = alpha[position as usize];
@@ -127,7 +128,7 @@ pub fn position_limit<A: Arith>(
 pub fn own_limit<A: Arith>(bounds: Bounds, q: usize, arith: &mut A) -> Result<Option<Limit>, Unfit>
     ensures settled { Settles (A.width arith.old) (limits.own_work bounds q) result }
     ensures width { A.width arith.new ≡ A.width arith.old }
-    ensures unfit { A.unfit_count arith.new ≡ unfit_by (A.unfit_count arith.old) result }
+    ensures unfit { A.unfit_count arith.new ≡ unfit_after (A.unfit_count arith.old) result }
     ensures work { A.work_count arith.new ≡ A.work_count arith.old }
 {
     let Some(lower) = bounds.lower() else {

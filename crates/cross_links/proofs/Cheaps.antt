@@ -28,11 +28,6 @@ lone_in-some es [] r is = absurd (cc)
 lone_in-some es (l ∷ []) r is = (l, refl, cc)
 lone_in-some es (l ∷ (k ∷ ls)) r is = absurd (cc)
 
-pub lone_in-none : (es : List (Option Entry)) (ls : List ℕ) → length ls ≢ 1 → lone_in es ls ≡ None
-lone_in-none es [] ne = refl
-lone_in-none es (l ∷ []) ne = absurd (ne refl)
-lone_in-none es (l ∷ (k ∷ ls)) ne = refl
-
 pub one_item : (ls : List ℕ) (l : ℕ) → length ls ≡ 1 → Contains ls l → ls ≡ l ∷ []
 one_item [] l one held = absurd (omega arith)
 one_item (x ∷ []) l one held = ap (λ (y : ℕ). y ∷ []) (sym (contains_one x l held))

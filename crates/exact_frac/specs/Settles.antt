@@ -1,8 +1,7 @@
 -- What a call that works values in order answers: `Unfit` exactly where one of them does not fit the width, else the calculation's
 -- answer, in its result (`Settles`) or in a buffer (`Leaves`).
-use Rattle.std.specs.Prelude.{◌≡◌, ℕ, Some, None, Result, MatchResult, Ok, Err}
+use Rattle.std.specs.Prelude.{◌≡◌, ℕ, Some, None, Result, MatchResult}
 use Rattle.rational.specs.Worked.{Worked, settle}
-use Rattle.exact_frac.specs.Count.{raised}
 use Rattle.exact_frac.specs.declared.unfit.Unfit.{Unfit}
 
 -- the result is the calculation's answer
@@ -12,8 +11,3 @@ Settles w c result = MatchResult result (λ answer. settle w c ≡ Some answer) 
 -- the answer is what a buffer holds at the return
 abbrev pub Leaves : {A B : Type 0} → ℕ → Worked A → Result B Unfit → A → Type 0
 Leaves w c result left = MatchResult result (λ _. settle w c ≡ Some left) (λ _. settle w c ≡ None)
-
--- the count of unfit results after a call: raised by one exactly at `Unfit`
-abbrev pub unfit_by : {A : Type 0} → ℕ → Result A Unfit → ℕ
-unfit_by count (Ok answer) = count
-unfit_by count (Err unfit) = raised count 1

@@ -8,16 +8,22 @@
 //! [`text`] answers this text, which `lp_text` defines as `fraction_text`, and [`append`] puts it at the end of a list of
 //! bytes. Both refuse only for want of memory; `append` then leaves the list as it was.
 //!
+//! [`read`] answers the fraction of a text, and none exactly where no fraction whose parts are below 2^127 has it. It takes
+//! no memory.
+//!
 //! The crate stands on `exact_frac`, on `lp_text` for the definition of the text, on `itoa`, which prints integers of up to 128
-//! bits, and on `no_memory` for the refusal.
+//! bits, on `rational` and `no_memory`.
 #![tactic(auto)]
 
 ghost use Rattle.std.specs.Prelude.{◌≡◌, ◌++◌, IfOk, OnOk, OnErr};
 ghost use Rattle.lp_text.specs.Fraction.{fraction_text};
 
+mod reading;
+
 use exact_frac::Frac;
 use itoa::Buffer;
 use no_memory::Memory;
+pub use reading::read;
 use std::alloc::Global;
 
 /// The text of a fraction.

@@ -1,2 +1,5 @@
 pub mod Lists
+pub mod Made
+pub mod Sums
 pub mod Starts
+pub mod Whole

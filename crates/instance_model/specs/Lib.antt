@@ -1,2 +1,4 @@
 pub mod Entries
+pub mod Inner
+pub mod Making
 pub mod Parts

@@ -1,5 +1,5 @@
--- What the parts of an instance stand for, and what holds of them.
-use Rattle.std.specs.Prelude.{◌≡◌, ℕ, ◌≤◌, ◌^◌, List, All, Option, Some, None, map, length}
+-- inner: what the parts of an instance in memory stand for, and what holds of them.
+use Rattle.std.specs.Prelude.{◌≡◌, ◌≤◌, ◌^◌, All, Option, Some, None, map, length}
 use Rattle.lp_model.specs.declared.Phase.{Phase}
 use Rattle.lp_model.specs.declared.Phase.TheVariants.{One, Two}
 use Rattle.lp_model.specs.declared.Side.{Side}

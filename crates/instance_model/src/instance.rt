@@ -1,7 +1,7 @@
 //! Instances: their parts and their columns.
 ghost use Rattle.std.specs.Prelude.{◌≡◌, ◌<◌, ◌≤◌, ◌+◌, ◌*◌};
 ghost use Rattle.rational.specs.Sum.{at};
-ghost use Rattle.lp_run.specs.Instance.{bounds, column_count, column_kind, cost, passed_side, row_count, structural as structural_at, structural_count, IsWellFormed};
+ghost use Rattle.lp_run.specs.Instance.{bounds, column_count, column_kind, cost, passed_side, row_count, sign_past, structural as structural_at, structural_count, IsWellFormed};
 ghost use Rattle.instance_model.specs.Parts.{artificial_bounds, artificial_cost, structural_cost};
 
 use crate::bounds::Bounds;
@@ -98,6 +98,20 @@ impl Instance {
         ensures { result ≡ passed_side self.now row }
     {
         self.passed[row]
+    }
+
+    /// The entry of the artificial of a row: the sign of the residual less the end that it passes, and 1 where it passes
+    /// none.
+    #[tactic(auto, using(exact_frac::specs::Constants::constants))]
+    pub fn sign(&self, row: usize) -> Frac
+        requires { row < row_count self.now }
+        ensures { result ≡ sign_past (passed_side self.now row) }
+    {
+        match self.passed[row] {
+            Some(Side::Lower) => Frac::ONE.negated(),
+            Some(Side::Upper) => Frac::ONE,
+            None => Frac::ONE,
+        }
     }
 
     /// Which column a number names.

@@ -3,12 +3,9 @@ use Rattle.std.proofs.Common.{◌≡◌, ◌≢◌, ℕ, ◌⊎◌, List, Option
 use Rattle.std.specs.Prelude.{IfSome, IsErrOf, MatchOption}
 use Rattle.lp_model.specs.Deck.{Deck}
 use Rattle.lp_run.specs.Instance.{instance_of}
-use Rattle.simple_laws.specs.Stands.{MeetsUnfit}
-use Rattle.lp_run.specs.Run.{IsSpent}
-use Rattle.lp_run.specs.Simple.{IsSimple}
-use Rattle.simple_laws.specs.Stands.{IsEndless}
-use Rattle.simple_laws.proofs.Complete.{not_endless, not_spent, not_unfit}
-use Rattle.lp_text.specs.Refusals.{later_line}
+use Rattle.lp_run.specs.Listing.{RunFits}
+use Rattle.lp_model.specs.declared.Place.{Place}
+use Rattle.crew.proofs.Complete.{not_spent, not_unfit}
 use Rattle.mps_model.specs.DeckOf.{HasFault, Reading, crossed_bounds, has_fault, in_line, is_deck, no_end, no_objective, reading_of, TextFault}
 use Rattle.mps_reader.specs.declared.faults.DeckFault.TheVariants as deck
 use Rattle.mps_reader.specs.declared.faults.DeckFault.{DeckFault}
@@ -23,7 +20,7 @@ use Rattle.lp_main.specs.declared.status.Status.TheVariants as status
 use Rattle.lp_main.specs.Ends.{End, FailsBy, LeavesBy, ReadsBy, SaysBy, WritesBy, status_of_end}
 use Rattle.lp_main.specs.Refusal.{line_of, status_of}
 use Rattle.lp_main.specs.Says.{Says}
-use Rattle.lp_main.specs.Serves.{Answers, BeginsReport, IsCutOff, AnswersDeck, HasOptimum, IsFirstFault, IsLater, IsOverBudget, IsOverflow, IsUnservedDeck, IsOrMemory, Reports, budget}
+use Rattle.lp_main.specs.Serves.{Answers, BeginsReport, EndsWithin, IsCutOff, IsFirstFault, IsOverBudget, IsOverflow, IsOrMemory, Reports, budget}
 use Rattle.lp_main.specs.Solves.{IsCause}
 
 -- what was said is the refusal, or want of memory
@@ -40,23 +37,21 @@ ended_unserved w words text old result e e' n n' unserved (said, inr is, status,
 -- want of memory may take the place of each refusal of a solve
 memory_in_place : (w : ℕ) (text left old new : Option (List ℕ)) (r : Refusal) → IsCause w text left old new r → IsCause w text left old new refusal.Memory
 memory_in_place w text left old new (refusal.Deck fault) cause = inl cause.1
-memory_in_place w text left old new (refusal.Later k) cause = inl cause.1
 memory_in_place w text left old new refusal.Read cause = inl cause.1
 memory_in_place w text left old new refusal.Write cause = inr cause
 memory_in_place w text left old new refusal.Memory cause = cause
 memory_in_place w text left old new refusal.Usage cause = absurd cause
-memory_in_place w text left old new refusal.Overflow cause = inl cause.1
+memory_in_place w text left old new (refusal.Overflow here) cause = inl cause.1
 memory_in_place w text left old new (refusal.Budget k) cause = inl cause.1
 
 refused_by : (w : ℕ) (words : List (List ℕ)) (text left old new : Option (List ℕ)) (r : Refusal) (result : Status) (e e' : Option (List ℕ)) (n n' : ℕ) → IsServed words → IsCause w text left old new r → result ≡ status_of r → Says e e' n n' (line_of r)
     → Ended w words text left old new result e e' n n'
 refused_by w words text left old new (refusal.Deck fault) result e e' n n' served cause status says = (Err (refusal.Deck fault), status, (served, cause), says)
-refused_by w words text left old new (refusal.Later k) result e e' n n' served cause status says = (Err (refusal.Later k), status, (served, cause), says)
 refused_by w words text left old new refusal.Read result e e' n n' served cause status says = (Err refusal.Read, status, (served, cause), says)
 refused_by w words text left old new refusal.Write result e e' n n' served cause status says = (Err refusal.Write, status, (served, cause), says)
 refused_by w words text left old new refusal.Memory result e e' n n' served cause status says = (Err refusal.Memory, status, inl (served, cause), says)
 refused_by w words text left old new refusal.Usage result e e' n n' served cause status says = absurd cause
-refused_by w words text left old new refusal.Overflow result e e' n n' served cause status says = (Err refusal.Overflow, status, (served, cause), says)
+refused_by w words text left old new (refusal.Overflow here) result e e' n n' served cause status says = (Err (refusal.Overflow here), status, (served, cause), says)
 refused_by w words text left old new (refusal.Budget k) result e e' n n' served cause status says = (Err (refusal.Budget k), status, (served, cause), says)
 
 pub ended_refused : (w : ℕ) (words : List (List ℕ)) (text left old new : Option (List ℕ)) (r : Refusal) (result : Status) (e e' : Option (List ℕ)) (n n' : ℕ) → IsServed words → IsCause w text left old new r → Said r result e e' n n'
@@ -94,18 +89,8 @@ module _ (w : ℕ) (text left old new : Option (List ℕ)) (s : Status) (count c
 same_deck : (d d' : Deck) (k line : ℕ) → is_deck d k ≡ is_deck d' line → d ≡ d'
 same_deck d d' k line e = cc
 
-same_line : (d d' : Deck) (k line : ℕ) → is_deck d k ≡ is_deck d' line → k ≡ line
-same_line d d' k line e = cc
-
 same_fault : (f f' : TextFault) → has_fault f ≡ has_fault f' → f ≡ f'
 same_fault f f' e = cc
-
--- of three ends of a deck's run no two come together
-apart : (d : Deck) → IsSimple d → IsEndless d → HasOptimum d → ⊥
-apart d simple endless (log, x, y, v, outcome, within) = not_endless d simple log x y v outcome endless
-
-over : (d : Deck) → IsSimple d → IsSpent (instance_of d) budget → HasOptimum d → ⊥
-over d simple spent (log, x, y, v, outcome, within) = not_spent d simple log x y v outcome budget within spent
 
 -- the line of what the reader answers is that of the fault of a text that it is
 named : (f : DeckFault) (P : TextFault → Type 0) → MatchOption (text_fault f) ⊥ P → (first : TextFault) × P first × (reader_line f ≡ fault_line first)
@@ -123,22 +108,17 @@ module _ (w : ℕ) (SaidOf : List ℕ → Type 0) where
   May t s = Answers w (reading_of t) s SaidOf
 
   -- what the deck of a text may answer, the text may
-  for_reading : (reading : Reading) (d : Deck) (line : ℕ) (s : Status) → reading ≡ is_deck d line → AnswersDeck w d line s SaidOf → Answers w reading s SaidOf
+  for_reading : (reading : Reading) (d : Deck) (line : ℕ) (s : Status) → reading ≡ is_deck d line → (EndsWithin d → RunFits w (instance_of d) → IsOrMemory s status.Done) → Answers w reading s SaidOf
   for_reading (has_fault fault) d line s e h = absurd (cc e)
-  for_reading (is_deck d' k) d line s e h =
-      subst (λ d. AnswersDeck w d k s SaidOf) (sym (same_deck d' d k line e)) (subst (λ k. AnswersDeck w d k s SaidOf) (sym (same_line d' d k line e)) h)
-
-  deck_done : (d : Deck) (line : ℕ) → IsSimple d → HasOptimum d → AnswersDeck w d line status.Done SaidOf
-  deck_done d line simple has = (λ other. absurd (other simple), λ _ endless. absurd (apart d simple endless has), λ _ optimum fits. inl refl)
+  for_reading (is_deck d' k) d line s e h = subst (λ d. EndsWithin d → RunFits w (instance_of d) → IsOrMemory s status.Done) (sym (same_deck d' d k line e)) h
 
   pub answered_done : (text old new : Option (List ℕ)) → IfSome text (Reports old new) → IfSome text (λ t. May t status.Done)
   answered_done None old new h = tt
-  answered_done (Some t) old new (d, line, log, x, y, v, is, appended) =
-      for_reading (reading_of t) d line status.Done is.read.read (deck_done d line is.read.simple (log, x, y, v, is.optimum.outcome, is.optimum.within))
+  answered_done (Some t) old new (d, line, log, o, read, is, appended) = for_reading (reading_of t) d line status.Done read (λ has fits. inl refl)
 
   answers_memory : (reading : Reading) → Answers w reading status.Memory SaidOf
   answers_memory (has_fault fault) = inr refl
-  answers_memory (is_deck d k) = (λ other. inr refl, λ simple endless. inl (inr refl), λ simple optimum fits. inr refl)
+  answers_memory (is_deck d k) = λ has fits. inr refl
 
   answers_fault : (reading : Reading) (fault : TextFault) → reading ≡ has_fault fault → SaidOf (fault_line fault) → Answers w reading status.BadInput SaidOf
   answers_fault (has_fault fault') fault e says = inl (refl, subst (λ f. SaidOf (fault_line f)) (sym (same_fault fault' fault e)) says)
@@ -148,27 +128,15 @@ module _ (w : ℕ) (SaidOf : List ℕ → Type 0) where
   answered_fault None fault h says = tt
   answered_fault (Some t) fault h says = let k = named fault (HasFault t) h in answers_fault (reading_of t) k.0 k.1 (subst SaidOf k.2 says)
 
-  deck_later : (d : Deck) (line : ℕ) → IsUnservedDeck d → SaidOf (later_line line) → AnswersDeck w d line status.BadInput SaidOf
-  deck_later d line (inl other) says = (λ _. inl (refl, says), λ simple endless. inl (inl (refl, says)), λ simple optimum fits. absurd (other simple))
-  deck_later d line (inr (simple, endless)) says = (λ _. inl (refl, says), λ _ _. inl (inl (refl, says)), λ _ optimum fits. absurd (apart d simple endless optimum))
-
-  answered_later : (text : Option (List ℕ)) (k : ℕ) → IfSome text (λ t. IsLater t k) → SaidOf (later_line k) → IfSome text (λ t. May t status.BadInput)
-  answered_later None k h says = tt
-  answered_later (Some t) k (d, read, later) says = for_reading (reading_of t) d k status.BadInput read (deck_later d k later says)
-
-  deck_overflow : (d : Deck) (line : ℕ) → IsSimple d → MeetsUnfit w budget (instance_of d) → AnswersDeck w d line status.Overflow SaidOf
-  deck_overflow d line simple meets = (λ other. absurd (other simple), λ _ endless. inr (inl refl), λ _ optimum fits. absurd (not_unfit (instance_of d) w budget fits meets))
-
-  answered_overflow : (text : Option (List ℕ)) → IfSome text (IsOverflow w) → IfSome text (λ t. May t status.Overflow)
-  answered_overflow None h = tt
-  answered_overflow (Some t) (d, line, read, meets) = for_reading (reading_of t) d line status.Overflow read.read (deck_overflow d line read.simple meets)
-
-  deck_budget : (d : Deck) (line : ℕ) → IsSimple d → IsSpent (instance_of d) budget → AnswersDeck w d line status.Budget SaidOf
-  deck_budget d line simple spent = (λ other. absurd (other simple), λ _ endless. inr (inr refl), λ _ optimum fits. absurd (over d simple spent optimum))
+  answered_overflow : (text : Option (List ℕ)) (here : Place) → IfSome text (IsOverflow w here) → IfSome text (λ t. May t status.Overflow)
+  answered_overflow None here h = tt
+  answered_overflow (Some t) here (d, line, read, overflows) =
+      for_reading (reading_of t) d line status.Overflow read (λ has fits. absurd (not_unfit (instance_of d) w budget here fits overflows))
 
   answered_budget : (text : Option (List ℕ)) (n : ℕ) → IfSome text (IsOverBudget n) → IfSome text (λ t. May t status.Budget)
   answered_budget None n h = tt
-  answered_budget (Some t) n (same, d, line, read, spent, short) = for_reading (reading_of t) d line status.Budget read.read (deck_budget d line read.simple spent)
+  answered_budget (Some t) n (same, d, line, read, spent, short) =
+      for_reading (reading_of t) d line status.Budget read (λ has fits. absurd (not_spent (instance_of d) has.0 has.1 has.2 budget has.3 spent))
 
   answered_memory : (text : Option (List ℕ)) → IfSome text (λ t. May t status.Memory)
   answered_memory None = tt
@@ -177,12 +145,11 @@ module _ (w : ℕ) (SaidOf : List ℕ → Type 0) where
   by_refusal : (text left old new : Option (List ℕ)) (r : Refusal) (A B : Type 0) → IsCause w text left old new r → SaidOf (line_of r)
       → (r ≡ refusal.Read → A) → (r ≡ refusal.Write → B) → (¬ A) → (¬ B) → IfSome text (λ t. May t (status_of r))
   by_refusal text left old new (refusal.Deck fault) A B cause says read write no_read no_write = answered_fault text fault cause.0 says
-  by_refusal text left old new (refusal.Later k) A B cause says read write no_read no_write = answered_later text k cause.0 says
   by_refusal text left old new refusal.Read A B cause says read write no_read no_write = absurd (no_read (read refl))
   by_refusal text left old new refusal.Write A B cause says read write no_read no_write = absurd (no_write (write refl))
   by_refusal text left old new refusal.Memory A B cause says read write no_read no_write = answered_memory text
   by_refusal text left old new refusal.Usage A B cause says read write no_read no_write = absurd cause
-  by_refusal text left old new refusal.Overflow A B cause says read write no_read no_write = answered_overflow text cause.0
+  by_refusal text left old new (refusal.Overflow here) A B cause says read write no_read no_write = answered_overflow text here cause.0
   by_refusal text left old new (refusal.Budget k) A B cause says read write no_read no_write = answered_budget text k cause.0
 
 pub answered_refused : (w : ℕ) (text left old new : Option (List ℕ)) (r : Refusal) (result : Status) (e e' : Option (List ℕ)) (n n' : ℕ) (A B : Type 0) → IsCause w text left old new r

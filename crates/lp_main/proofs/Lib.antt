@@ -1,5 +1,4 @@
 pub mod ThreeWords
-pub mod SimpleRows
+pub mod Reporting
 pub mod Solving
 pub mod Ending
-pub mod Bounded

@@ -26,10 +26,9 @@ LeavesBy w words text left old new (Ok u) = IsServed words × IfSome text (Repor
 LeavesBy w words text left old new (Err refusal.Usage) = (¬ IsServed words) × (left ≡ text) × (new ≡ old)
 LeavesBy w words text left old new (Err refusal.Memory) = (IsServed words × IsCause w text left old new refusal.Memory) ⊎ ((¬ IsServed words) × (left ≡ text) × (new ≡ old))
 LeavesBy w words text left old new (Err (refusal.Deck fault)) = IsServed words × IsCause w text left old new (refusal.Deck fault)
-LeavesBy w words text left old new (Err (refusal.Later n)) = IsServed words × IsCause w text left old new (refusal.Later n)
 LeavesBy w words text left old new (Err refusal.Read) = IsServed words × IsCause w text left old new refusal.Read
 LeavesBy w words text left old new (Err refusal.Write) = IsServed words × IsCause w text left old new refusal.Write
-LeavesBy w words text left old new (Err refusal.Overflow) = IsServed words × IsCause w text left old new refusal.Overflow
+LeavesBy w words text left old new (Err (refusal.Overflow here)) = IsServed words × IsCause w text left old new (refusal.Overflow here)
 LeavesBy w words text left old new (Err (refusal.Budget n)) = IsServed words × IsCause w text left old new (refusal.Budget n)
 
 -- what the end leaves on standard error: nothing, or the refusal's line, or the beginning of it where a write there failed

@@ -5,24 +5,23 @@ use Rattle.lp_main.specs.declared.refusal.Refusal.TheVariants as refusal
 use Rattle.lp_main.specs.declared.status.Status.{Status}
 use Rattle.lp_main.specs.declared.status.Status.TheVariants as status
 use Rattle.lp_main.specs.FaultLines.{reader_line}
-use Rattle.lp_text.specs.Refusals.{budget_line, later_line, memory_line, overflow_line, read_line, usage_line, write_line}
+use Rattle.lp_main.specs.Overflow.{overflow_line}
+use Rattle.lp_text.specs.Refusals.{budget_line, memory_line, read_line, usage_line, write_line}
 
 abbrev pub status_of : Refusal → Status
 status_of refusal.Usage = status.Usage
 status_of (refusal.Deck fault) = status.BadInput
-status_of (refusal.Later n) = status.BadInput
 status_of refusal.Read = status.ReadFault
 status_of refusal.Write = status.WriteFault
-status_of refusal.Overflow = status.Overflow
+status_of (refusal.Overflow here) = status.Overflow
 status_of (refusal.Budget n) = status.Budget
 status_of refusal.Memory = status.Memory
 
 abbrev pub line_of : Refusal → List ℕ
 line_of refusal.Usage = usage_line
 line_of (refusal.Deck fault) = reader_line fault
-line_of (refusal.Later n) = later_line n
 line_of refusal.Read = read_line
 line_of refusal.Write = write_line
-line_of refusal.Overflow = overflow_line
+line_of (refusal.Overflow here) = overflow_line here
 line_of (refusal.Budget n) = budget_line n
 line_of refusal.Memory = memory_line

@@ -5,11 +5,11 @@
 //! over any source and any sinks: where they tell their bytes, the bytes written are the report of
 //! the deck's one run by Bland's rule (Bland 1977), or one line that refuses, with its cause.
 //!
-//! Every deck in fixed MPS is read, and each fault of a text has its line. Simple decks are solved: rows
-//! of type L without ranges, right sides from 0 up, columns from 0 up. The others are answered as `later`, and so is a
-//! simple deck whose objective falls without end.
+//! Every deck in fixed MPS is read, and each fault of a text has its line. Every deck is solved, in two phases: to an optimal
+//! point with prices that prove it, to a Farkas row, which leaves no feasible point, or to a feasible point with a ray along
+//! which the objective falls without end.
 //!
-//! The deck is read by `mps_reader`, solved by `simple_solve`, and the report written by `cert_text`; the
+//! The deck is read by `mps_reader`, made an instance by `instance_model`, solved by `crew`, and the report written by `cert_text`; the
 //! definitions that the contract cites are those of `mps_model`, `lp_model` and `lp_text`.
 #![tactic(auto)]
 
@@ -23,8 +23,8 @@ use std::process::ExitCode;
 use std::rt::Env;
 
 mod fault_line;
+mod overflow_line;
 mod refusal;
-mod simple;
 mod solve;
 mod status;
 mod top;

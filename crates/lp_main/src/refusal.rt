@@ -4,8 +4,10 @@ ghost use Rattle.lp_main.specs.Refusal.{line_of, status_of};
 ghost use Rattle.lp_main.specs.Says.{Says};
 
 use crate::fault_line::{fault_line, numbered, whole_line};
+use crate::overflow_line::overflow_line;
 use crate::status::Status;
 use io_ends::{Sink, write_all};
+use lp_model::Place;
 use mps_reader::DeckFault;
 use std::alloc::{AllocError, Global};
 
@@ -16,14 +18,12 @@ pub enum Refusal {
     Usage,
     /// The text's first fault. A failed read and want of memory are refusals of their own.
     Deck(DeckFault),
-    /// The deck is none that is served yet; its last line.
-    Later(u64),
     /// A read failed.
     Read,
     /// A write failed.
     Write,
-    /// A value does not fit the width of the arithmetic.
-    Overflow,
+    /// The place of a value of the run that does not fit the width of the arithmetic.
+    Overflow(Place),
     /// The run needs more moves than this budget.
     Budget(u64),
     /// Memory ran out.
@@ -37,10 +37,10 @@ impl Refusal {
     {
         match self {
             Refusal::Usage => Status::Usage,
-            Refusal::Deck(_) | Refusal::Later(_) => Status::BadInput,
+            Refusal::Deck(_) => Status::BadInput,
             Refusal::Read => Status::ReadFault,
             Refusal::Write => Status::WriteFault,
-            Refusal::Overflow => Status::Overflow,
+            Refusal::Overflow(_) => Status::Overflow,
             Refusal::Budget(_) => Status::Budget,
             Refusal::Memory => Status::Memory,
         }
@@ -56,10 +56,9 @@ impl Refusal {
                 "lp: usage: lp solve [--workers W] [--reinverters R] [--budget N] [--log] or check or deck or make N",
             ),
             Refusal::Deck(fault) => fault_line(alloc, fault),
-            Refusal::Later(line) => numbered(alloc, "lp: line ", *line, ": later"),
             Refusal::Read => whole_line(alloc, "lp: read failed"),
             Refusal::Write => whole_line(alloc, "lp: write failed"),
-            Refusal::Overflow => whole_line(alloc, "lp: overflow"),
+            Refusal::Overflow(place) => overflow_line(alloc, *place),
             Refusal::Budget(moves) => numbered(alloc, "lp: budget spent after ", *moves, " moves"),
             Refusal::Memory => whole_line(alloc, "lp: out of memory"),
         }

@@ -3,33 +3,26 @@ ghost use Rattle.std.specs.Prelude.{◌≡◌, ◌≤◌, [], IfOk, IfSome, IfEr
 ghost use Rattle.io_ends.specs.Bytes.{Appends, AppendsPrefix};
 ghost use Rattle.io_ends.specs.Count.{Rose};
 ghost use Rattle.cert_text.specs.Report.{text_of_report};
-ghost use Rattle.mps_model.specs.DeckOf.{IsDeckOf};
+ghost use Rattle.lp_model.specs.Deck.{IsDeck};
+ghost use Rattle.lp_run.specs.Instance.{instance_of};
+ghost use Rattle.lp_run.specs.Listing.{StartFits};
 ghost use Rattle.mps_reader.specs.Answers.{IsReadAsNeeded};
 ghost use Rattle.lp_main.specs.Serves.{Reports};
-ghost use Rattle.lp_main.specs.Solves.{IsCause, IsReadingCause, IsReportCause, IsReportOf, IsWriteCause, refusal_of};
+ghost use Rattle.lp_main.specs.Solves.{IsCause, IsRead, IsReadingCause, IsReportCause, IsReportOf, IsWriteCause, refusal_of};
 
 use crate::refusal::Refusal;
-use crate::simple::is_simple;
 use cert_text::{Report, ReportWriteFault, write_report};
+use crew::{CrewFault, solve_alone};
 use deck_model::Deck;
 use exact_frac::Arith;
+use instance_model::{Instance, InstanceFault};
 use io_ends::{Sink, Source};
 use mps_cards::LineReader;
 use mps_reader::{DeckFault, read_deck};
-use simple_solve::SolveFault;
 use std::alloc::Global;
 
 /// How many moves a run may take.
 const BUDGET: u64 = 1_000_000;
-
-/// A deck that was read.
-#[derive(Drop)]
-struct Read {
-    /// The deck.
-    deck: Deck,
-    /// The number of the line that ends it.
-    line: u64,
-}
 
 /// Why a solve refuses where the reader does.
 fn refusal_of(fault: DeckFault) -> Refusal
@@ -43,8 +36,8 @@ fn refusal_of(fault: DeckFault) -> Refusal
 }
 
 /// Reads a deck.
-fn load<S: Source>(alloc: Global, source: &mut S) -> Result<Read, Refusal>
-    ensures read { IfOk result (λ read. IfSome (S.remaining source.old) (λ text. IsDeckOf text read.deck read.line)) }
+fn load<S: Source>(alloc: Global, source: &mut S) -> Result<Deck, Refusal>
+    ensures read { IfOk result (λ deck. IfSome (S.remaining source.old) (λ text. IsRead text deck)) }
     ensures cause { IfErr result (λ refusal. IsReadingCause (S.remaining source.old) (S.remaining source.new) refusal) }
     ensures needed { IsReadAsNeeded [] (S.remaining source.old) (S.remaining source.new) }
     ensures rose { IsErrOf result Refusal.Read → Rose (S.fault_count source.old) (S.fault_count source.new) }
@@ -55,43 +48,62 @@ fn load<S: Source>(alloc: Global, source: &mut S) -> Result<Read, Refusal>
         return Err(Refusal::Memory);
     };
     match read_deck(alloc, &mut lines, source) {
-        Ok(deck) => Ok(Read {
-            deck,
-            line: lines.lines(),
-        }),
+        Ok(deck) => Ok(deck),
         Err(fault) => Err(refusal_of(fault)),
     }
 }
 
-/// The report of a deck that was read.
-fn report_of<A: Arith>(alloc: Global, read: &Read, arith: &mut A) -> Result<Report, Refusal>
-    ensures report { IfOk result (λ report. IsReportOf read.now.deck report) }
-    ensures cause { IfErr result (IsReportCause (A.width arith.old) read.now.deck read.now.line) }
+/// The report of a deck.
+#[tactic(auto, using(crate::proofs::Reporting::start_cause))]
+fn report_of<A: Arith>(alloc: Global, deck: &Deck, arith: &mut A) -> Result<Report, Refusal>
+    ensures report { IfOk result (IsReportOf deck.now) }
+    ensures cause { IfErr result (IsReportCause (A.width arith.old) deck.now) }
     ensures same_width { A.width arith.new ≡ A.width arith.old }
 {
-    if !is_simple(&read.deck) {
-        return Err(Refusal::Later(read.line));
+    let _rows = deck.rows();
+    match Instance::of(alloc, deck, arith) {
+        Ok(inst) => report_of_instance(alloc, deck, &inst, arith),
+        Err(InstanceFault::Overflow(place)) => Err(Refusal::Overflow(place)),
+        Err(InstanceFault::Memory) => Err(Refusal::Memory),
     }
-    match simple_solve::solve(alloc, &read.deck, BUDGET, arith) {
-        Ok(outcome) => Ok(Report { outcome, log: None }),
-        Err(SolveFault::Endless) => Err(Refusal::Later(read.line)),
-        Err(SolveFault::Unfit) => Err(Refusal::Overflow),
-        Err(SolveFault::Spent) => Err(Refusal::Budget(BUDGET)),
-        Err(SolveFault::Memory) => Err(Refusal::Memory),
+}
+
+/// The report of a deck by its instance.
+fn report_of_instance<A: Arith>(
+    alloc: Global,
+    deck: &Deck,
+    inst: &Instance,
+    arith: &mut A,
+) -> Result<Report, Refusal>
+    requires deck { IsDeck deck.now }
+    requires instance { inst.now ≡ instance_of deck.now }
+    requires fits { StartFits (A.width arith.old) (instance_of deck.now) }
+    ensures report { IfOk result (IsReportOf deck.now) }
+    ensures cause { IfErr result (IsReportCause (A.width arith.old) deck.now) }
+    ensures same_width { A.width arith.new ≡ A.width arith.old }
+{
+    match solve_alone(alloc, inst, BUDGET, arith) {
+        Ok(closed) => Ok(Report {
+            outcome: closed.outcome,
+            log: None,
+        }),
+        Err(CrewFault::Overflow(place)) => Err(Refusal::Overflow(place)),
+        Err(CrewFault::Budget(moves)) => Err(Refusal::Budget(moves)),
+        Err(CrewFault::Memory) => Err(Refusal::Memory),
     }
 }
 
 /// Writes a report.
-fn write<K: Sink>(alloc: Global, read: &Read, report: &Report, out: &mut K) -> Result<(), Refusal>
-    requires { IsReportOf read.now.deck report.now }
-    ensures written { OnOk result (Appends (K.contents out.old) (K.contents out.new) (text_of_report read.now.deck report.now)) }
+fn write<K: Sink>(alloc: Global, deck: &Deck, report: &Report, out: &mut K) -> Result<(), Refusal>
+    requires { IsReportOf deck.now report.now }
+    ensures written { OnOk result (Appends (K.contents out.old) (K.contents out.new) (text_of_report deck.now report.now)) }
     ensures cause { IfErr result IsWriteCause }
-    ensures begun { AppendsPrefix (K.contents out.old) (K.contents out.new) (text_of_report read.now.deck report.now) }
+    ensures begun { AppendsPrefix (K.contents out.old) (K.contents out.new) (text_of_report deck.now report.now) }
     ensures rose { IsErrOf result Refusal.Write → Rose (K.fault_count out.old) (K.fault_count out.new) }
     ensures stays { ¬ IsErrOf result Refusal.Write → K.fault_count out.new ≡ K.fault_count out.old }
     ensures never_falls { K.fault_count out.old ≤ K.fault_count out.new }
 {
-    match write_report(alloc, &read.deck, report, out) {
+    match write_report(alloc, deck, report, out) {
         Ok(()) => Ok(()),
         Err(ReportWriteFault::Write) => Err(Refusal::Write),
         Err(ReportWriteFault::Memory) => Err(Refusal::Memory),
@@ -116,12 +128,12 @@ pub fn solve<S: Source, K: Sink, A: Arith>(
     ensures sink_never_falls { K.fault_count out.old ≤ K.fault_count out.new }
     ensures same_width { A.width arith.new ≡ A.width arith.old }
 {
-    let read = match load(alloc, source) {
-        Ok(read) => read,
+    let deck = match load(alloc, source) {
+        Ok(deck) => deck,
         Err(unread) => return Err(unread),
     };
-    match report_of(alloc, &read, arith) {
-        Ok(report) => write(alloc, &read, &report, out),
+    match report_of(alloc, &deck, arith) {
+        Ok(report) => write(alloc, &deck, &report, out),
         Err(refusal) => Err(refusal),
     }
 }

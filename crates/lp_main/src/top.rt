@@ -24,14 +24,13 @@ use std::thread::Threads;
 /// What the clauses mean, where `deck` tells the text that it has left:
 ///
 /// - `ends`: the call ends in one way, which has this status. Either `out` gained the report of the one
-///   run of the simple deck that the text is, and `err` nothing; or `err` gained the one line of a
-///   refusal (a beginning of it, where a write there failed), and the refusal has its cause: words that
-///   are not served; the text's first fault; `later` at the line that ends a deck which is not simple, or
-///   a simple one whose run ends at a step without a limit; a failed read, where what was taken has no
-///   whole line with a fault and none that ends the deck; a failed write; of a simple deck, a listed
-///   value that does not fit the width, or a run longer than the budget, which is then below the bound of
-///   Bland's theorem. `out` gained nothing, but after
-///   a failed write or want of memory it may have a beginning of the report.
+///   run of the deck that the text is, an optimal point with prices that prove it, a Farkas row, or a
+///   feasible point with a ray, and `err` nothing; or `err` gained the one line of a refusal (a beginning
+///   of it, where a write there failed), and the refusal has its cause: words that are not served; the
+///   text's first fault; a failed read, where what was taken has no whole line with a fault and none that
+///   ends the deck; a failed write; the first value of the run that does not fit the width, with its
+///   place; or a run longer than the budget, which is then below the bound of Bland's theorem. `out`
+///   gained nothing, but after a failed write or want of memory it may have a beginning of the report.
 /// - `needed`: `deck` is read only as needed, however the call ends: before the last read, of up to 4,096
 ///   bytes, no line that stands whole in the bytes that were read has a fault, none ends the deck, and the
 ///   bytes are no more than a deck may have.
@@ -45,11 +44,9 @@ use std::thread::Threads;
 /// - `write_fault`: either no write failed, so that the count of `out` stands, and the status is not
 ///   `WriteFault`. Or a write failed behind a beginning of the report, the count rose, and the status is
 ///   `WriteFault` or `Memory`.
-/// - `answered`: with served words, and where neither count rose, the status is one that the text may
-///   have, or `Memory`. A text with a fault has `BadInput` and the line of its first fault. A deck that
-///   is not simple has `BadInput` and the line `later`; a simple deck without end has this too, or
-///   `Overflow` or `Budget`. A simple deck with an optimum within the budget, all of whose values fit,
-///   has `Done`.
+/// - `answered`: with served words, and where neither count rose, a text with a fault has `BadInput` and
+///   the line of its first fault, and a deck whose run ends within the budget, all of whose values fit,
+///   has `Done`; or the status is `Memory`.
 pub fn run_alone<R: Threads, S: Source, K: Sink, E: Sink, A: Arith>(
     _rt: &R,
     alloc: Global,

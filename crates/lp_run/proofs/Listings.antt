@@ -8,6 +8,7 @@ use Rattle.rational.proofs.RationalRing.{ring_ℚ}
 use Rattle.rational.proofs.Ring.{◌≐◌, ◌⊙◌≗◌⟹◌, ◌⊕◌, ◌⊗◌, 𝟘, 𝟙}
 use Rattle.rational.specs.Sum.{sum_ℚ}
 use Rattle.rational.proofs.OrderLaws.{eq_ℚ-decides, eq_ℚ-other}
+use Rattle.rational.proofs.Settling.{more_answer}
 use Rattle.rational.proofs.WidthLaws.{unfit_tested}
 use Rattle.rational.proofs.SumLaws.{sum-shift, at_or_other, sum-suc, sum-zero_terms}
 use Rattle.rational.specs.Sparse.{upto}
@@ -97,20 +98,6 @@ module _ (w : ℕ) (here : Place) (r a b v : ℚ) (left : a ≢ zero_ℚ) (right
 -- the product of the k-th term
 abbrev pub product_of : List Term → Place → ℕ → ℚ
 product_of terms none k = (get_or terms k (none, (zero_ℚ, zero_ℚ))).1.0 *ℚ (get_or terms k (none, (zero_ℚ, zero_ℚ))).1.1
-
-no_product : (a b : ℚ) (s t : Bool) → eq_ℚ a zero_ℚ ≡ s → eq_ℚ b zero_ℚ ≡ t → (s || t) ≡ true → a *ℚ b ≡ zero_ℚ
-no_product a b true t e f is = ap (λ x. x *ℚ b) ((eq_ℚ-decides a zero_ℚ).0 e) ∙ ring_ℚ 1 (λ b. 𝟘 ⊗ b ≐ 𝟘) tt b
-no_product a b false t e f is = ap (λ x. a *ℚ x) ((eq_ℚ-decides b zero_ℚ).0 (f ∙ is)) ∙ ring_ℚ 1 (λ a. a ⊗ 𝟘 ≐ 𝟘) tt a
-
--- what an addition comes to
-more_answer : (r a b : ℚ) → (more r a b).answer ≡ r +ℚ a *ℚ b
-unfolding more bind work done is_skipped
-more_answer r a b = by_test (eq_ℚ a zero_ℚ) (eq_ℚ b zero_ℚ) refl refl
-  where
-    by_test : (s t : Bool) → eq_ℚ a zero_ℚ ≡ s → eq_ℚ b zero_ℚ ≡ t → (cond (s || t) (done r) (bind (work (a *ℚ b)) (λ product. work (r +ℚ product)))).answer ≡ r +ℚ a *ℚ b
-    by_test true t e f = ring_ℚ 2 (λ r p. 𝟙 ⊙ 𝟘 ≗ p ⟹ r ≐ r ⊕ p) tt r (a *ℚ b) (sym (no_product a b true t e f refl))
-    by_test false true e f = ring_ℚ 2 (λ r p. 𝟙 ⊙ 𝟘 ≗ p ⟹ r ≐ r ⊕ p) tt r (a *ℚ b) (sym (no_product a b false true e f refl))
-    by_test false false e f = refl
 
 module _ (w : ℕ) (none : Place) (v : ℚ) (unfit : ¬ FitsWidth w v) where
   -- a product of a running sum, and what the sum comes to with it

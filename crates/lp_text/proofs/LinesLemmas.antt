@@ -118,7 +118,3 @@ lines_of-byte (c ∷ text) = elim (eqb_tells c 10) [
 pub size_of-first : (text : List ℕ) (line : Line) (lines : List Line) → lines_of text ≡ line ∷ lines → 1 ≤ size_of line
 unfolding FirstHasByte
 size_of-first text line lines first = subst FirstHasByte first (lines_of-byte text)
-
--- a text with no line is empty
-pub empty_from_no_line : (text : List ℕ) → lines_of text ≡ [] → text ≡ []
-empty_from_no_line text none = sym (flat_map-lines_of text) ∙ ap (flat_map line_text) none

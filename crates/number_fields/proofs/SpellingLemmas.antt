@@ -63,20 +63,6 @@ stops_after text i d h = stops (digits_value (take i text)) (get_or text i d - 4
 abbrev within : ℤ → Result ℤ FieldFault
 within z = if nat_lt 30 (nat_abs z) then Err Exponent else Ok z
 
-pub exponent_small : (negative : Bool) (n size : ℕ) → size ≡ min n 31 → size ≤ 30 → within (signed negative n) ≡ Ok (signed negative size)
-exponent_small negative n size e h =
-    let same : size ≡ n = omega arith in
-    rw (nat_abs-signed negative n) (each (nat_lt 30 n) refl ∙ ap (λ k. Ok (signed negative k)) (sym same))
-  where
-    each : (b : Bool) → nat_lt 30 n ≡ b → (if b then Err Exponent else Ok (signed negative n)) ≡ Ok (signed negative n)
-    each true t = let big : 30 < n = ltb-true 30 n t in absurd (omega arith)
-    each false t = refl
-
-pub exponent_large : (negative : Bool) (n size : ℕ) → size ≡ min n 31 → 30 < size → within (signed negative n) ≡ Err Exponent
-exponent_large negative n size e h =
-    let big : 30 < n = omega arith in
-    rw (nat_abs-signed negative n, lt-ltb 30 n big) refl
-
 -- ---- the value, or the first fault
 
 abbrev read : Option ℤ → ℕ → (ℤ → Result ℚ FieldFault) → Result ℚ FieldFault

@@ -1,45 +1,18 @@
 -- Lines worked by column: which value does not fit first, and what a line becomes.
-use Rattle.std.proofs.Common.{◌≡◌, ℕ, ◌+◌, ◌<◌, List, [], ◌∷◌, map, length, get_or, set, Bool, true, false, ◌||◌, cond, Option, Some, None, refl, sym, ◌∙◌, ap, ap₂, subst, arith}
+use Rattle.std.proofs.Common.{◌≡◌, ℕ, ◌+◌, ◌<◌, List, [], ◌∷◌, map, length, get_or, set, Option, Some, None, sym, ◌∙◌, ap, ap₂, subst, arith}
 use Rattle.std.proofs.lemmas.List.{get_or_default, get_or-set_other, get_or-set_same}
 use borrow.Author.Count.{below_more}
 use Rattle.lp_model.specs.declared.Place.{Place}
-use Rattle.rational.specs.Rational.{ℚ, zero_ℚ, ◌+ℚ◌, ◌-ℚ◌, ◌*ℚ◌, ◌/ℚ◌, eq_ℚ}
+use Rattle.rational.specs.Rational.{ℚ, zero_ℚ, ◌-ℚ◌, ◌*ℚ◌, ◌/ℚ◌}
 use Rattle.rational.specs.Width.{FitsWidth}
 use Rattle.rational.specs.Sum.{at}
 use Rattle.rational.specs.Sparse.{upto}
-use Rattle.rational.specs.Worked.{bind, done, is_skipped, less, more, placed, settle, work}
-use Rattle.rational.proofs.OrderLaws.{eq_ℚ-decides}
-use Rattle.rational.proofs.RationalRing.{ring_ℚ}
-use Rattle.rational.proofs.Ring.{◌≐◌, ◌⊙◌≗◌⟹◌, ◌⊖◌, ◌⊕◌, ◌⊗◌, 𝟘, 𝟙}
-use Rattle.rational.proofs.Settling.{settle-answer, settle-same}
+use Rattle.rational.specs.Worked.{less, placed, settle}
+use Rattle.rational.proofs.Settling.{less_answer, settle-answer, settle-same}
 use Rattle.rational.proofs.WidthLaws.{fits_width-decides, unfit_tested}
 use Rattle.lp_run.specs.Listing.{AllFit, first_unfit}
 use Rattle.lp_run.proofs.FirstUnfit.{all-flat_map, first-flat_map, fit-placed, one-fits, one-unfit, singles, unfit-placed}
 use Rattle.plain_table.specs.Inner.Lines.{in_column, less_listing, quotients_listing}
-
-no_product : (a b : ℚ) (s t : Bool) → eq_ℚ a zero_ℚ ≡ s → eq_ℚ b zero_ℚ ≡ t → (s || t) ≡ true → a *ℚ b ≡ zero_ℚ
-no_product a b true t e f is = ap (λ x. x *ℚ b) ((eq_ℚ-decides a zero_ℚ).0 e) ∙ ring_ℚ 1 (λ b. 𝟘 ⊗ b ≐ 𝟘) tt b
-no_product a b false t e f is = ap (λ x. a *ℚ x) ((eq_ℚ-decides b zero_ℚ).0 (f ∙ is)) ∙ ring_ℚ 1 (λ a. a ⊗ 𝟘 ≐ 𝟘) tt a
-
--- what a difference comes to
-pub less_answer : (r a b : ℚ) → (less r a b).answer ≡ r -ℚ a *ℚ b
-unfolding less bind work done is_skipped
-less_answer r a b = by_test (eq_ℚ a zero_ℚ) (eq_ℚ b zero_ℚ) refl refl
-  where
-    by_test : (s t : Bool) → eq_ℚ a zero_ℚ ≡ s → eq_ℚ b zero_ℚ ≡ t → (cond (s || t) (done r) (bind (work (a *ℚ b)) (λ product. work (r -ℚ product)))).answer ≡ r -ℚ a *ℚ b
-    by_test true t e f = ring_ℚ 2 (λ r p. 𝟙 ⊙ p ≗ 𝟘 ⟹ r ≐ r ⊖ p) tt r (a *ℚ b) (no_product a b true t e f refl)
-    by_test false true e f = ring_ℚ 2 (λ r p. 𝟙 ⊙ p ≗ 𝟘 ⟹ r ≐ r ⊖ p) tt r (a *ℚ b) (no_product a b false true e f refl)
-    by_test false false e f = refl
-
--- what a sum comes to
-pub more_answer : (r a b : ℚ) → (more r a b).answer ≡ r +ℚ a *ℚ b
-unfolding more bind work done is_skipped
-more_answer r a b = by_test (eq_ℚ a zero_ℚ) (eq_ℚ b zero_ℚ) refl refl
-  where
-    by_test : (s t : Bool) → eq_ℚ a zero_ℚ ≡ s → eq_ℚ b zero_ℚ ≡ t → (cond (s || t) (done r) (bind (work (a *ℚ b)) (λ product. work (r +ℚ product)))).answer ≡ r +ℚ a *ℚ b
-    by_test true t e f = ring_ℚ 2 (λ r p. 𝟙 ⊙ 𝟘 ≗ p ⟹ r ≐ r ⊕ p) tt r (a *ℚ b) (sym (no_product a b true t e f refl))
-    by_test false true e f = ring_ℚ 2 (λ r p. 𝟙 ⊙ 𝟘 ≗ p ⟹ r ≐ r ⊕ p) tt r (a *ℚ b) (sym (no_product a b false true e f refl))
-    by_test false false e f = refl
 
 -- an item that is read is the list's
 pub item_read : {A : Type 0} (xs : List A) (i : ℕ) (x d : A) → i < length xs → x ≡ get_or xs i x → x ≡ get_or xs i d

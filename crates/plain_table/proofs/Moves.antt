@@ -1,12 +1,11 @@
 -- Basic values as a column enters.
-use Rattle.std.proofs.Common.{◌≡◌, ◌≢◌, ℕ, ◌<◌, List, length, get_or, Bool, true, false, cond, eqb, Result, Ok, Err, Option, Some, None, ◌⊎◌, sym, ◌∙◌, ap, subst}
+use Rattle.std.proofs.Common.{◌≡◌, ℕ, ◌<◌, List, length, get_or, Bool, true, false, cond, eqb, Result, Option, Some, None, sym, ◌∙◌, ap, subst}
 use Rattle.lp_model.specs.declared.Kind.TheVariants as kind
 use Rattle.lp_model.specs.declared.Place.{Place}
-use Rattle.rational.specs.Rational.{ℚ, zero_ℚ, ◌+ℚ◌, ◌-ℚ◌, ◌*ℚ◌}
-use Rattle.rational.specs.Width.{FitsWidth}
+use Rattle.rational.specs.Rational.{ℚ, zero_ℚ, ◌+ℚ◌, ◌-ℚ◌}
 use Rattle.rational.specs.Sum.{at}
 use Rattle.rational.specs.Worked.{Worked, less, more, placed, settle, work}
-use Rattle.rational.proofs.Settling.{more-none, more-some, settle-answer, settle-bind, settle-bind_none, settle-done, settle-same, settle-work, settle-work_none}
+use Rattle.rational.proofs.Settling.{settle-answer, settle-same}
 use Rattle.exact_frac.specs.declared.unfit.Unfit.{Unfit}
 use Rattle.exact_frac.specs.Exact.{Exact}
 use Rattle.exact_frac.specs.Settles.{Settles}
@@ -19,30 +18,6 @@ use Rattle.plain_table.proofs.Lines.{item_read}
 -- what one calculation answers, another one does that is the same
 pub settles_as : {A : Type 0} (w : ℕ) (c d : Worked A) (r : Result A Unfit) → d ≡ c → Settles w c r → Settles w d r
 settles_as w c d r e h = subst (λ c. Settles w c r) (sym e) h
-
-settles_too : {A : Type 0} (w u : ℕ) (c d : Worked A) (r : Result A Unfit) → settle w d ≡ settle u c → Settles u c r → Settles w d r
-settles_too w u c d (Ok a) e h = e ∙ h
-settles_too w u c d (Err f) e h = e ∙ h
-
--- ── x and a product ──
-
-pub more_skipped : (w : ℕ) (x a b : ℚ) → (a ≡ zero_ℚ) ⊎ (b ≡ zero_ℚ) → settle w (more x a b) ≡ Some x
-more_skipped w x a b none = ap (settle w) (more-none x a b none) ∙ settle-done w x
-
-pub more_unfit : (w : ℕ) (x a b : ℚ) → a ≢ zero_ℚ → b ≢ zero_ℚ → ¬ FitsWidth w (a *ℚ b) → settle w (more x a b) ≡ None
-more_unfit w x a b left right unfit =
-    ap (settle w) (more-some x a b left right) ∙ settle-bind_none w (work (a *ℚ b)) (λ product. work (x +ℚ product)) (settle-work_none w (a *ℚ b) unfit)
-
--- the product fits, and the sum is worked at the width after it
-pub more_rest : (u w : ℕ) (x a b product : ℚ) (r : Result ℚ Unfit) → u ≡ w → a ≢ zero_ℚ → b ≢ zero_ℚ → (product ≡ a *ℚ b) × FitsWidth w (a *ℚ b)
-    → Exact u (x +ℚ product) r → Settles w (more x a b) r
-more_rest u w x a b product r same left right fits exact =
-    settles_too w u (work (x +ℚ product)) (more x a b) r
-    (ap (settle w) (more-some x a b left right)
-    ∙ settle-bind w (work (a *ℚ b)) (λ p. work (x +ℚ p)) (a *ℚ b) (settle-work w (a *ℚ b) fits.1)
-    ∙ ap (λ p. settle w (work (x +ℚ p))) (sym fits.0)
-    ∙ ap (λ v. settle v (work (x +ℚ product))) (sym same))
-    (settles-exact u (x +ℚ product) r exact)
 
 -- ── the cases ──
 

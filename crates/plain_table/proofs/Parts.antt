@@ -1,6 +1,7 @@
 -- The listing of a swap, part by part.
-use Rattle.std.proofs.Common.{◌≡◌, ℕ, zero, suc, ◌+◌, ◌<◌, ◌≤◌, List, ◌++◌, flat_map, Some, Result, Ok, Err, refl, ◌∙◌, ap₂, arith}
+use Rattle.std.proofs.Common.{◌≡◌, ℕ, zero, suc, ◌+◌, ◌<◌, ◌≤◌, List, ◌++◌, flat_map, Some, Result, Ok, Err, IsErrAnd, refl, sym, ◌∙◌, ap, ap₂, subst, arith}
 use Rattle.std.specs.List.{range_with_len}
+use Rattle.std.proofs.lemmas.Result.{err_from_is_err_and}
 use Rattle.lp_model.specs.declared.Place.{Place}
 use Rattle.rational.specs.Sparse.{upto}
 use Rattle.lp_run.specs.Listing.{AllFit, Listed, first_unfit}
@@ -27,3 +28,8 @@ module _ (w : ℕ) (xs ys : List Listed) where
   -- the first part decides
   pub judged_first : (here : Place) → first_unfit w xs ≡ Some here → first_unfit w (xs ++ ys) ≡ Some here
   judged_first here e = unfit-append w xs ys here e
+
+-- an answer that is an error is handed on
+pub judged_on : {A : Type 0} (w u : ℕ) (vs : List Listed) (here : Place) (r : Result A Place) → u ≡ w → first_unfit u vs ≡ Some here → IsErrAnd r (λ first. first ≡ here) → Judges w vs r
+judged_on w u vs here r same unfit refused =
+    let at = err_from_is_err_and r refused in subst (λ r. Judges w vs r) (sym at.1) (subst (λ w. first_unfit w vs ≡ Some here) same unfit ∙ ap Some (sym at.2))

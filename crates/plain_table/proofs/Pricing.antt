@@ -15,7 +15,7 @@ use Rattle.lp_run.specs.Instance.{Instance, column_count, cost}
 use Rattle.lp_run.specs.Listing.{AllFit, first_unfit, place}
 use Rattle.lp_run.proofs.FirstUnfit.{first-flat_map, fit-placed, unfit-placed}
 use Rattle.plain_table.specs.Inner.Costs.{HasProduct, cost_work, costs_work_listing, factors_from, first_or, or_single, priced, terms_from}
-use Rattle.plain_table.proofs.Lines.{less_answer}
+use Rattle.rational.proofs.Settling.{less_answer}
 
 -- a product of a zero factor is skipped
 pub skipped : (a b : ℚ) → (a ≡ zero_ℚ) ⊎ (b ≡ zero_ℚ) → is_skipped a b ≡ true

@@ -23,7 +23,7 @@ use Rattle.table_laws.specs.Stands.{StandsAt, prices_shown}
 use Rattle.table_laws.proofs.Stepped.{flipped, swapped, turned}
 use Rattle.table_laws.proofs.Tableaus.{stands_tableau, tableau_stands}
 use Rattle.plain_table.specs.Inner.Values.{entered_by, moved, value_work}
-use Rattle.plain_table.proofs.Lines.{less_answer, more_answer}
+use Rattle.rational.proofs.Settling.{less_answer, more_answer}
 use Rattle.plain_table.proofs.Swaps.{turned_by}
 
 -- a table with the same entries and reduced costs stands as well

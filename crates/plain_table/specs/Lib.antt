@@ -1,2 +1,4 @@
 pub mod Inner
 pub mod Plain
+pub mod Answers
+pub mod Next

@@ -3,7 +3,7 @@ use Rattle.std.specs.Prelude.{◌≡◌, ℕ, ◌<◌, List, [], length, get_or}
 use Rattle.rational.specs.Rational.{ℚ}
 use Rattle.rational.specs.Sum.{at}
 use Rattle.lp_model.specs.declared.Entry.{Entry}
-use Rattle.lp_run.specs.Instance.{Instance}
+use Rattle.lp_run.specs.Instance.{Instance, column_count, row_count}
 use Rattle.lp_run.specs.State.{State, basic}
 use Rattle.table_laws.specs.Stands.{StandsAt}
 
@@ -32,3 +32,4 @@ pub record IsSized (m n : ℕ) (t : Plain) : Type 0 where
 pub record Stands (inst : Instance) (log : List Entry) (t : Plain) : Type 0 where
   pub table : StandsAt inst log t.state (cell t) t.values (at t.costs)
   pub number : t.number ≡ length log
+  pub sized : IsSized (row_count inst) (column_count inst) t

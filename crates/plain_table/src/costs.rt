@@ -7,9 +7,10 @@ ghost use Rattle.rational.specs.Worked.{is_skipped};
 ghost use Rattle.lp_run.specs.Instance.{column_count, cost as cost_of, row_count};
 ghost use Rattle.lp_run.specs.State.{basic};
 ghost use Rattle.lp_run.specs.Listing.{place};
-ghost use Rattle.exact_frac.specs.Settles.{Settles, unfit_by};
+ghost use Rattle.exact_frac.specs.Count.{unfit_after};
+ghost use Rattle.exact_frac.specs.Settles.{Settles};
 ghost use Rattle.plain_table.specs.Inner.Costs.{AreCosts, HasProduct, cost_work, costs_work_listing, priced, terms_from};
-ghost use Rattle.plain_table.specs.Inner.Lines.{Judges, counted};
+ghost use Rattle.plain_table.specs.Inner.Lines.{Judges};
 ghost use Rattle.plain_table.specs.Inner.Rows.{AreWide};
 
 use crate::row::Row;
@@ -56,7 +57,7 @@ fn less_basic_costs<A: Arith>(
     requires columns { (p : ℕ) → p < length rows.now → j < length (get_or rows.now p []) }
     ensures settled { Settles (A.width arith.old) (priced own (terms_from basic_costs.now rows.now j 0 (length rows.now))) result }
     ensures width { A.width arith.new ≡ A.width arith.old }
-    ensures unfit { A.unfit_count arith.new ≡ unfit_by (A.unfit_count arith.old) result }
+    ensures unfit { A.unfit_count arith.new ≡ unfit_after (A.unfit_count arith.old) result }
 {
     let mut rest = own;
     for p in 0..rows.len() {
@@ -80,7 +81,7 @@ fn reduced_cost<A: Arith>(
     requires columns { (p : ℕ) → p < length rows.now → j < length (get_or rows.now p []) }
     ensures settled { Settles (A.width arith.old) (cost_work own basic_costs.now rows.now j) result }
     ensures width { A.width arith.new ≡ A.width arith.old }
-    ensures unfit { A.unfit_count arith.new ≡ unfit_by (A.unfit_count arith.old) result }
+    ensures unfit { A.unfit_count arith.new ≡ unfit_after (A.unfit_count arith.old) result }
 {
     if is_priced(j, basic_costs, rows) {
         less_basic_costs(own, j, basic_costs, rows, arith)
@@ -118,7 +119,7 @@ pub fn work_costs<A: Arith>(
     ensures answer { Judges (A.width arith.old) (costs_work_listing inst.now phase number basic_costs.now rows.now) result }
     ensures costs { OnOk result (AreCosts inst.now phase basic_costs.now rows.now out.new) }
     ensures width { A.width arith.new ≡ A.width arith.old }
-    ensures unfit { A.unfit_count arith.new ≡ counted (A.unfit_count arith.old) result }
+    ensures unfit { A.unfit_count arith.new ≡ unfit_after (A.unfit_count arith.old) result }
 {
     for j in 0..inst.columns() {
         match reduced_cost(inst.cost(phase, j), j, basic_costs, rows, arith) {

@@ -3,18 +3,35 @@
 //! **Model.** A [`Table`] is seen as the record `Plain`: the state, the rows by position, the basic values, the reduced
 //! costs by column, and the number of entries before the state. It has m rows and N = n + 2m columns.
 //!
-//! It stands on `instance_model` for instances and states, on `sparse_steps` and `exact_frac` for numbers, and on
-//! `table_laws` for what an entry makes of a table.
+//! **Contract.** [`Table::start`] makes the table of the start, and [`Table::replay`] that of the state that a log leads to:
+//! Ok is a table that stands there (`Stands`: its columns, basic values and reduced costs are those of the state) before
+//! which all that is worked fits, `Overflow` the place of the first value that does not (`MakesTable`). [`Table::next`] says
+//! what comes next by Bland's rule (`ComesNext`), and [`Table::step`] takes in the next entry without memory: Ok exactly
+//! where all fits that the run lists under its number, else the place of the first value that does not, with the table as
+//! it was (`JudgesStep`). `specs/Answers.antt` and `specs/Next.antt` have these.
+//!
+//! It stands on `instance_model` for instances and states, on `deck_model` for logs, on `bland_ratio` for the ratio test, on
+//! `sparse_steps` and `exact_frac` for numbers, and on `table_laws` for what an entry makes of a table.
 #![tactic(auto)]
 
 mod costs;
+mod faults;
+mod flip;
 mod line;
+mod making;
+mod motion;
+mod next;
 mod pivot;
 mod residual;
 mod row;
 mod rows;
 mod start;
+mod start_values;
+mod step;
+mod swap;
 mod table;
 mod values;
 
+pub use faults::TableFault;
+pub use next::{End, Next, falls};
 pub use table::Table;

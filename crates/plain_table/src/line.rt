@@ -1,7 +1,8 @@
 //! Lines of numbers by column, worked one after another: a quotient or a difference in each.
 ghost use Rattle.std.specs.Prelude.{◌≡◌, ◌≢◌, ◌<◌, ◌^◌, length, OnOk};
 ghost use Rattle.rational.specs.Rational.{zero_ℚ};
-ghost use Rattle.plain_table.specs.Inner.Lines.{in_column as there, AreDivided, AreLess, Judges, counted, less_listing, quotients_listing};
+ghost use Rattle.exact_frac.specs.Count.{unfit_after};
+ghost use Rattle.plain_table.specs.Inner.Lines.{in_column as there, AreDivided, AreLess, Judges, less_listing, quotients_listing};
 
 use exact_frac::{Arith, Frac};
 use lp_model::Place;
@@ -32,7 +33,7 @@ pub fn divide_line<A: Arith>(
     ensures answer { Judges (A.width arith.old) (quotients_listing here line.now pivot) result }
     ensures divided { OnOk result (AreDivided line.now pivot out.new) }
     ensures width { A.width arith.new ≡ A.width arith.old }
-    ensures unfit { A.unfit_count arith.new ≡ counted (A.unfit_count arith.old) result }
+    ensures unfit { A.unfit_count arith.new ≡ unfit_after (A.unfit_count arith.old) result }
 {
     for j in 0..line.len() {
         match arith.div(line[j], pivot) {
@@ -58,7 +59,7 @@ pub fn subtract_line<A: Arith>(
     ensures answer { Judges (A.width arith.old) (less_listing here line.now factor by.now) result }
     ensures less { OnOk result (AreLess line.now factor by.now out.new) }
     ensures width { A.width arith.new ≡ A.width arith.old }
-    ensures unfit { A.unfit_count arith.new ≡ counted (A.unfit_count arith.old) result }
+    ensures unfit { A.unfit_count arith.new ≡ unfit_after (A.unfit_count arith.old) result }
 {
     for j in 0..line.len() {
         match less_product(line[j], factor, by[j], arith) {

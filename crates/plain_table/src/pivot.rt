@@ -4,8 +4,9 @@ ghost use Rattle.lp_model.specs.declared.Kind.TheVariants as kind;
 ghost use Rattle.lp_run.specs.Listing.{place};
 ghost use Rattle.rational.specs.Rational.{zero_ℚ};
 ghost use Rattle.rational.specs.Sum.{at};
-ghost use Rattle.plain_table.specs.Inner.Lines.{Judges, counted};
-ghost use Rattle.plain_table.specs.Inner.Pivots.{ArePivoted, swap_listing};
+ghost use Rattle.exact_frac.specs.Count.{unfit_after};
+ghost use Rattle.plain_table.specs.Inner.Lines.{Judges};
+ghost use Rattle.plain_table.specs.Inner.Pivots.{ArePivoted, line_listing, pivot_line, swap_listing};
 ghost use Rattle.plain_table.specs.Inner.Rows.{AreWide};
 
 use crate::line::{divide_line, subtract_line};
@@ -50,6 +51,28 @@ fn costs_place(number: u64) -> Place
     }
 }
 
+// The pivot row divided by its element in the column.
+fn divide_pivot_row<A: Arith>(
+    pivot: &Pivot,
+    rows: &[Row],
+    arith: &mut A,
+    by: &mut [Frac],
+) -> Result<(), Place>
+    requires position { pivot.now.position < length rows.now }
+    requires wide { length (get_or rows.now pivot.now.position []) ≡ length by.old }
+    requires column { pivot.now.column < length by.old }
+    requires element { at (get_or rows.now pivot.now.position []) pivot.now.column ≢ zero_ℚ }
+    requires few { length by.old < 2 ^ 32 }
+    ensures answer { Judges (A.width arith.old) (line_listing pivot.now rows.now) result }
+    ensures divided { OnOk result (by.new ≡ pivot_line pivot.now rows.now) }
+    ensures width { A.width arith.new ≡ A.width arith.old }
+    ensures unfit { A.unfit_count arith.new ≡ unfit_after (A.unfit_count arith.old) result }
+{
+    let row = &rows[pivot.position as usize];
+    let here = line_place(pivot.number, pivot.position);
+    divide_line(here, row.as_slice(), row.get(pivot.column), arith, by)
+}
+
 /// Works all parts of the table after the pivot into spare ones: the pivot row, the other rows, the basic values, whose
 /// elements in the entering column are `alpha`, and the reduced costs.
 pub fn work_swap<A: Arith>(
@@ -81,24 +104,16 @@ pub fn work_swap<A: Arith>(
     ensures pivoted { OnOk result (ArePivoted pivot.now alpha.now rows.now values.now costs.now out_rows.new out_values.new out_costs.new) }
     ensures spare_wide { AreWide (length costs.now) out_rows.new }
     ensures width { A.width arith.new ≡ A.width arith.old }
-    ensures unfit { A.unfit_count arith.new ≡ counted (A.unfit_count arith.old) result }
+    ensures unfit { A.unfit_count arith.new ≡ unfit_after (A.unfit_count arith.old) result }
 {
     let number = pivot.number;
-    let position = pivot.position as usize;
     let q = pivot.column;
-    let row = &rows[position];
-    let here = line_place(number, pivot.position);
-    if let Err(place) = divide_line(here, row.as_slice(), row.get(q), arith, by) {
-        return Err(place);
-    }
-    if let Err(place) = eliminate_all(number, position, q, by, rows, arith, out_rows) {
-        return Err(place);
-    }
+    let position = pivot.position as usize;
     let (down, rest, ratio) = (pivot.down, pivot.rest, pivot.ratio);
-    if let Err(place) = move_values(
+    divide_pivot_row(pivot, rows, arith, by)?;
+    eliminate_all(number, position, q, by, rows, arith, out_rows)?;
+    move_values(
         number, position, down, rest, ratio, values, alpha, arith, out_values,
-    ) {
-        return Err(place);
-    }
+    )?;
     subtract_line(costs_place(number), costs, costs[q], by, arith, out_costs)
 }

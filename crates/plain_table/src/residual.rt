@@ -1,7 +1,8 @@
 //! What the structurals at their start leave of the right sides.
 ghost use Rattle.std.specs.Prelude.{◌≡◌, ◌<◌};
 ghost use Rattle.rational.specs.Sparse.{entry_at};
-ghost use Rattle.exact_frac.specs.Settles.{Settles, unfit_by};
+ghost use Rattle.exact_frac.specs.Count.{unfit_after};
+ghost use Rattle.exact_frac.specs.Settles.{Settles};
 ghost use Rattle.lp_run.specs.Instance.{row_count, start_value as start_of_bounds, structural as structural_of, structural_count};
 ghost use Rattle.plain_table.specs.Inner.Starts.{residual_work};
 
@@ -36,7 +37,7 @@ pub fn residual<A: Arith>(inst: &Instance, row: usize, arith: &mut A) -> Result<
     requires { row < row_count inst.now }
     ensures settled { Settles (A.width arith.old) (residual_work inst.now row) result }
     ensures width { A.width arith.new ≡ A.width arith.old }
-    ensures unfit { A.unfit_count arith.new ≡ unfit_by (A.unfit_count arith.old) result }
+    ensures unfit { A.unfit_count arith.new ≡ unfit_after (A.unfit_count arith.old) result }
 {
     let mut rest = inst.right(row);
     for j in 0..inst.structurals() {

@@ -3,7 +3,8 @@ ghost use Rattle.std.specs.Prelude.{◌≡◌, ◌<◌, ◌^◌, length, OnOk};
 ghost use Rattle.rational.specs.Sum.{at};
 ghost use Rattle.lp_run.specs.Instance.{column_count, row_count};
 ghost use Rattle.plain_table.specs.Inner.Starts.{IsStartRow, start_row_listing};
-ghost use Rattle.plain_table.specs.Inner.Lines.{AreLess, Judges, counted, less_listing};
+ghost use Rattle.exact_frac.specs.Count.{unfit_after};
+ghost use Rattle.plain_table.specs.Inner.Lines.{AreLess, Judges, less_listing};
 
 use crate::line::subtract_line;
 use crate::start::fill_row;
@@ -78,7 +79,7 @@ impl Row {
         ensures less { OnOk result (AreLess line.now factor by.now self.new) }
         ensures length { length self.new ≡ length self.old }
         ensures width { A.width arith.new ≡ A.width arith.old }
-        ensures unfit { A.unfit_count arith.new ≡ counted (A.unfit_count arith.old) result }
+        ensures unfit { A.unfit_count arith.new ≡ unfit_after (A.unfit_count arith.old) result }
     {
         subtract_line(here, line, factor, by, arith, self.cells.as_mut_slice())
     }
@@ -96,7 +97,7 @@ impl Row {
         ensures filled { OnOk result (IsStartRow inst.now row self.new) }
         ensures length { length self.new ≡ length self.old }
         ensures width { A.width arith.new ≡ A.width arith.old }
-        ensures unfit { A.unfit_count arith.new ≡ counted (A.unfit_count arith.old) result }
+        ensures unfit { A.unfit_count arith.new ≡ unfit_after (A.unfit_count arith.old) result }
     {
         fill_row(inst, row, arith, self.cells.as_mut_slice())
     }

@@ -2,7 +2,8 @@
 ghost use Rattle.std.specs.Prelude.{◌≡◌, ◌<◌, ◌^◌, ℕ, List, [], ◌==◌, get_or, if◌then◌else◌, length, OnOk};
 ghost use Rattle.rational.specs.Rational.{ℚ};
 ghost use Rattle.rational.specs.Sum.{at};
-ghost use Rattle.plain_table.specs.Inner.Lines.{Judges, counted};
+ghost use Rattle.exact_frac.specs.Count.{unfit_after};
+ghost use Rattle.plain_table.specs.Inner.Lines.{Judges};
 ghost use Rattle.plain_table.specs.Inner.Rows.{AreEliminated, ArePicked, AreWide, IsEliminated, picked, row_listing, rows_listing};
 
 use crate::row::Row;
@@ -29,7 +30,7 @@ fn eliminate<A: Arith>(
     ensures eliminated { OnOk result (IsEliminated own q by.now row.now (picked own q row.now out.new)) }
     ensures spare { length out.new ≡ length by.now }
     ensures width { A.width arith.new ≡ A.width arith.old }
-    ensures unfit { A.unfit_count arith.new ≡ counted (A.unfit_count arith.old) result }
+    ensures unfit { A.unfit_count arith.new ≡ unfit_after (A.unfit_count arith.old) result }
 {
     if own {
         out.copy_from(by);
@@ -68,10 +69,10 @@ pub fn eliminate_all<A: Arith>(
     ensures eliminated { OnOk result (AreEliminated position q by.now rows.now out.new) }
     ensures spare { AreWide (length by.now) out.new }
     ensures width { A.width arith.new ≡ A.width arith.old }
-    ensures unfit { A.unfit_count arith.new ≡ counted (A.unfit_count arith.old) result }
+    ensures unfit { A.unfit_count arith.new ≡ unfit_after (A.unfit_count arith.old) result }
 {
     for i in 0..rows.len() {
-        match eliminate(
+        eliminate(
             number,
             i == position,
             i as u32,
@@ -80,10 +81,7 @@ pub fn eliminate_all<A: Arith>(
             &rows[i],
             arith,
             &mut out[i],
-        ) {
-            Ok(()) => {}
-            Err(place) => return Err(place),
-        }
+        )?;
     }
     Ok(())
 }

@@ -3,9 +3,10 @@ ghost use Rattle.std.specs.Prelude.{◌≡◌, ◌<◌, ◌^◌, ℕ, length, On
 ghost use Rattle.lp_model.specs.declared.Kind.TheVariants as kind;
 ghost use Rattle.rational.specs.Sparse.{at_index};
 ghost use Rattle.rational.specs.Sum.{at};
-ghost use Rattle.lp_run.specs.Instance.{coefficient as coefficient_of, column_count, row_count, sign_past as sign_of};
+ghost use Rattle.lp_run.specs.Instance.{coefficient as coefficient_of, column_count, row_count};
 ghost use Rattle.lp_run.specs.Listing.{entries_listing, place, start_entry as entry_of};
-ghost use Rattle.plain_table.specs.Inner.Lines.{Judges, counted};
+ghost use Rattle.exact_frac.specs.Count.{unfit_after};
+ghost use Rattle.plain_table.specs.Inner.Lines.{Judges};
 ghost use Rattle.plain_table.specs.Inner.Rows.{AreWide};
 ghost use Rattle.plain_table.specs.Inner.Starts.{AreStartRows, IsStartRow, start_row_listing};
 
@@ -24,18 +25,6 @@ fn unit(i: usize, k: usize, value: Frac) -> Frac
     if i == k { value } else { Frac::ZERO }
 }
 
-// The sign of a residual less the end that it passes.
-#[tactic(auto, using(exact_frac::specs::Constants::constants))]
-fn sign_past(passed: Option<Side>) -> Frac
-    ensures { result ≡ sign_of passed }
-{
-    match passed {
-        Some(Side::Lower) => Frac::ONE.negated(),
-        Some(Side::Upper) => Frac::ONE,
-        None => Frac::ONE,
-    }
-}
-
 // The entry of the equations in a row and a column.
 #[tactic(auto, using(exact_frac::specs::Constants::constants))]
 fn coefficient(inst: &Instance, row: usize, column: usize) -> Frac
@@ -46,7 +35,7 @@ fn coefficient(inst: &Instance, row: usize, column: usize) -> Frac
     match inst.kind(column) {
         ColumnKind::Structural(j) => entry(inst, j, row),
         ColumnKind::Logical(i) => unit(row, i, Frac::ONE),
-        ColumnKind::Artificial(i) => unit(row, i, sign_past(inst.passed(i))),
+        ColumnKind::Artificial(i) => unit(row, i, inst.sign(i)),
     }
 }
 
@@ -90,7 +79,7 @@ pub fn fill_row<A: Arith>(
     ensures answer { Judges (A.width arith.old) (start_row_listing inst.now row) result }
     ensures filled { OnOk result (IsStartRow inst.now row out.new) }
     ensures width { A.width arith.new ≡ A.width arith.old }
-    ensures unfit { A.unfit_count arith.new ≡ counted (A.unfit_count arith.old) result }
+    ensures unfit { A.unfit_count arith.new ≡ unfit_after (A.unfit_count arith.old) result }
 {
     for j in 0..inst.columns() {
         match arith.fit(start_entry(inst, row, j)) {
@@ -109,7 +98,7 @@ pub fn fill_rows<A: Arith>(inst: &Instance, arith: &mut A, out: &mut [Row]) -> R
     ensures filled { OnOk result (AreStartRows inst.now out.new) }
     ensures wide { AreWide (column_count inst.now) out.new }
     ensures width { A.width arith.new ≡ A.width arith.old }
-    ensures unfit { A.unfit_count arith.new ≡ counted (A.unfit_count arith.old) result }
+    ensures unfit { A.unfit_count arith.new ≡ unfit_after (A.unfit_count arith.old) result }
 {
     for i in 0..inst.rows() {
         match out[i].set_start(inst, i, arith) {

@@ -12,18 +12,18 @@ use std::marker::Model;
 /// costs beside it, and the number of entries of the log before the state.
 #[derive(Drop)]
 pub struct Table {
-    state: State,
-    rows: Vec<Row>,
-    values: Vec<Frac>,
-    costs: Vec<Frac>,
-    number: u64,
+    pub(crate) state: State,
+    pub(crate) rows: Vec<Row>,
+    pub(crate) values: Vec<Frac>,
+    pub(crate) costs: Vec<Frac>,
+    pub(crate) number: u64,
     // where a step is worked until all of it fits, so that it takes no memory and a refused one changes nothing
-    spare_rows: Vec<Row>,
-    spare_values: Vec<Frac>,
-    spare_costs: Vec<Frac>,
-    pivot_row: Vec<Frac>,
+    pub(crate) spare_rows: Vec<Row>,
+    pub(crate) spare_values: Vec<Frac>,
+    pub(crate) spare_costs: Vec<Frac>,
+    pub(crate) pivot_row: Vec<Frac>,
     // the entering column, by position
-    alpha: Vec<Frac>,
+    pub(crate) alpha: Vec<Frac>,
 }
 
 impl Model for Table {
@@ -59,6 +59,13 @@ impl Table {
         ensures { result ≡ at self.now.values position }
     {
         self.values[position]
+    }
+
+    /// The basic values, by position.
+    pub fn values(&self) -> &[Frac]
+        ensures { result.now ≡ self.now.values }
+    {
+        self.values.as_slice()
     }
 
     /// The reduced cost of a column.

@@ -1,30 +1,16 @@
 //! The basic values as a column enters.
 ghost use Rattle.std.specs.Prelude.{◌≡◌, ◌<◌, ◌≤◌, ◌^◌, ◌==◌, length, OnOk};
 ghost use Rattle.lp_model.specs.declared.Kind.TheVariants as kind;
-ghost use Rattle.rational.specs.Worked.{more, work};
+ghost use Rattle.rational.specs.Worked.{work};
 ghost use Rattle.lp_run.specs.Listing.{place};
-ghost use Rattle.exact_frac.specs.Settles.{Settles, unfit_by};
-ghost use Rattle.plain_table.specs.Inner.Lines.{Judges, counted};
+ghost use Rattle.exact_frac.specs.Count.{unfit_after};
+ghost use Rattle.exact_frac.specs.Settles.{Settles};
+ghost use Rattle.plain_table.specs.Inner.Lines.{Judges};
 ghost use Rattle.plain_table.specs.Inner.Values.{AreMoved, entered_by, moved, value_work, values_listing};
 
 use exact_frac::{Arith, Frac, Unfit};
 use lp_model::{Kind, Place};
-use sparse_steps::less_product;
-
-/// `x` and the product of `a` and `b`. A product of 0 is skipped.
-fn more_product<A: Arith>(x: Frac, a: Frac, b: Frac, arith: &mut A) -> Result<Frac, Unfit>
-    ensures settled { Settles (A.width arith.old) (more x a b) result }
-    ensures width { A.width arith.new ≡ A.width arith.old }
-    ensures unfit { A.unfit_count arith.new ≡ unfit_by (A.unfit_count arith.old) result }
-{
-    if a.is_zero() || b.is_zero() {
-        return Ok(x);
-    }
-    match arith.mul(a, b) {
-        Ok(product) => arith.add(x, product),
-        Err(unfit) => Err(unfit),
-    }
-}
+use sparse_steps::{less_product, more_product};
 
 /// A basic value after the step, with its element in the entering column, which falls or rises by the ratio.
 fn move_value<A: Arith>(
@@ -36,7 +22,7 @@ fn move_value<A: Arith>(
 ) -> Result<Frac, Unfit>
     ensures settled { Settles (A.width arith.old) (moved down value element ratio) result }
     ensures width { A.width arith.new ≡ A.width arith.old }
-    ensures unfit { A.unfit_count arith.new ≡ unfit_by (A.unfit_count arith.old) result }
+    ensures unfit { A.unfit_count arith.new ≡ unfit_after (A.unfit_count arith.old) result }
 {
     if down {
         more_product(value, element, ratio, arith)
@@ -49,7 +35,7 @@ fn move_value<A: Arith>(
 fn enter<A: Arith>(down: bool, rest: Frac, ratio: Frac, arith: &mut A) -> Result<Frac, Unfit>
     ensures settled { Settles (A.width arith.old) (work (entered_by down rest ratio)) result }
     ensures width { A.width arith.new ≡ A.width arith.old }
-    ensures unfit { A.unfit_count arith.new ≡ unfit_by (A.unfit_count arith.old) result }
+    ensures unfit { A.unfit_count arith.new ≡ unfit_after (A.unfit_count arith.old) result }
 {
     if down {
         arith.sub(rest, ratio)
@@ -70,7 +56,7 @@ fn value_after<A: Arith>(
 ) -> Result<Frac, Unfit>
     ensures settled { Settles (A.width arith.old) (value_work own down rest value element ratio) result }
     ensures width { A.width arith.new ≡ A.width arith.old }
-    ensures unfit { A.unfit_count arith.new ≡ unfit_by (A.unfit_count arith.old) result }
+    ensures unfit { A.unfit_count arith.new ≡ unfit_after (A.unfit_count arith.old) result }
 {
     if own {
         enter(down, rest, ratio, arith)
@@ -98,7 +84,7 @@ pub fn move_values<A: Arith>(
     ensures answer { Judges (A.width arith.old) (values_listing number position down rest ratio values.now column.now) result }
     ensures moved { OnOk result (AreMoved position down rest ratio values.now column.now out.new) }
     ensures width { A.width arith.new ≡ A.width arith.old }
-    ensures unfit { A.unfit_count arith.new ≡ counted (A.unfit_count arith.old) result }
+    ensures unfit { A.unfit_count arith.new ≡ unfit_after (A.unfit_count arith.old) result }
 {
     for i in 0..values.len() {
         match value_after(
@@ -117,8 +103,8 @@ pub fn move_values<A: Arith>(
     Ok(())
 }
 
-// The place of a basic value.
-fn value_place(number: u64, position: usize) -> Place
+/// The place of a basic value.
+pub fn value_place(number: u64, position: usize) -> Place
     requires { position < 2 ^ 32 }
     ensures { result ≡ place number kind.Value (Some position) None }
 {

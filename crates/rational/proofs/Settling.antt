@@ -1,13 +1,14 @@
 -- When a calculation settles, so that it has an answer at a width.
-use Rattle.std.proofs.Common.{◌≡◌, ◌≢◌, ℕ, Bool, true, false, cond, ◌&&◌, ◌||◌, List, [], ◌∷◌, ◌++◌, map, Option, Some, None, ◌⊎◌, inl, inr, refl, sym, ◌∙◌, ap, subst}
+use Rattle.std.proofs.Common.{◌≡◌, ◌≢◌, ℕ, Bool, true, false, cond, ◌&&◌, ◌||◌, Option, Some, None, ◌⊎◌, inl, inr, refl, sym, ◌∙◌, ap, subst}
 use Rattle.std.specs.List.{list_all}
-use Rattle.std.proofs.lemmas.List.{map-append}
 use Rattle.std.proofs.lemmas.List.Folds.{list_all-append}
 use Rattle.rational.specs.Rational.{ℚ, zero_ℚ, ◌+ℚ◌, ◌-ℚ◌, ◌*ℚ◌, eq_ℚ}
 use Rattle.rational.specs.Width.{fits_width, FitsWidth}
+use Rattle.rational.proofs.RationalRing.{ring_ℚ}
+use Rattle.rational.proofs.Ring.{◌≐◌, ◌⊙◌≗◌⟹◌, ◌⊖◌, ◌⊕◌, ◌⊗◌, 𝟘, 𝟙}
 use Rattle.rational.proofs.OrderLaws.{eq_ℚ-decides, eq_ℚ-other}
 use Rattle.rational.proofs.WidthLaws.{fits_from_test, fits_width-decides}
-use Rattle.rational.specs.Worked.{Worked, done, work, bind, settle, is_skipped, less, less_unless, more, placed, listed}
+use Rattle.rational.specs.Worked.{Worked, done, work, bind, settle, is_skipped, less, less_unless, more}
 
 -- ---- one step
 
@@ -124,23 +125,26 @@ pub less_unless-in : (out : Bool) (x a b : ℚ) → out ≡ false → less_unles
 unfolding less_unless
 less_unless-in out x a b e = ap (λ t. cond t (done x) (less x a b)) e
 
--- ---- listings
+-- ---- what a difference and a sum with a product come to, worked or skipped
 
--- a listing at one place has the worked values
-pub listed-placed : {P A : Type 0} (place : P) (c : Worked A) → listed (placed place c) ≡ c.values
-listed-placed place c = of_all c.values
+no_product : (a b : ℚ) (s t : Bool) → eq_ℚ a zero_ℚ ≡ s → eq_ℚ b zero_ℚ ≡ t → (s || t) ≡ true → a *ℚ b ≡ zero_ℚ
+no_product a b true t e f is = ap (λ x. x *ℚ b) ((eq_ℚ-decides a zero_ℚ).0 e) ∙ ring_ℚ 1 (λ b. 𝟘 ⊗ b ≐ 𝟘) tt b
+no_product a b false t e f is = ap (λ x. a *ℚ x) ((eq_ℚ-decides b zero_ℚ).0 (f ∙ is)) ∙ ring_ℚ 1 (λ a. a ⊗ 𝟘 ≐ 𝟘) tt a
+
+pub less_answer : (r a b : ℚ) → (less r a b).answer ≡ r -ℚ a *ℚ b
+unfolding less bind work done is_skipped
+less_answer r a b = by_test (eq_ℚ a zero_ℚ) (eq_ℚ b zero_ℚ) refl refl
   where
-    of_all : (vs : List ℚ) → listed (map (λ v. (place, v)) vs) ≡ vs
-    of_all [] = refl
-    of_all (v ∷ vs) = ap (λ us. v ∷ us) (of_all vs)
+    by_test : (s t : Bool) → eq_ℚ a zero_ℚ ≡ s → eq_ℚ b zero_ℚ ≡ t → (cond (s || t) (done r) (bind (work (a *ℚ b)) (λ product. work (r -ℚ product)))).answer ≡ r -ℚ a *ℚ b
+    by_test true t e f = ring_ℚ 2 (λ r p. 𝟙 ⊙ p ≗ 𝟘 ⟹ r ≐ r ⊖ p) tt r (a *ℚ b) (no_product a b true t e f refl)
+    by_test false true e f = ring_ℚ 2 (λ r p. 𝟙 ⊙ p ≗ 𝟘 ⟹ r ≐ r ⊖ p) tt r (a *ℚ b) (no_product a b false true e f refl)
+    by_test false false e f = refl
 
-pub listed-append : {P : Type 0} (xs ys : List (P × ℚ)) → listed (xs ++ ys) ≡ listed xs ++ listed ys
-listed-append xs ys = map-append (λ entry. entry.1) xs ys
-
-pub values-done : {A : Type 0} (a : A) → (done a).values ≡ []
-unfolding done
-values-done a = refl
-
-pub values-bind : {A B : Type 0} (c : Worked A) (f : A → Worked B) → (bind c f).values ≡ c.values ++ (f c.answer).values
-unfolding bind
-values-bind c f = refl
+pub more_answer : (r a b : ℚ) → (more r a b).answer ≡ r +ℚ a *ℚ b
+unfolding more bind work done is_skipped
+more_answer r a b = by_test (eq_ℚ a zero_ℚ) (eq_ℚ b zero_ℚ) refl refl
+  where
+    by_test : (s t : Bool) → eq_ℚ a zero_ℚ ≡ s → eq_ℚ b zero_ℚ ≡ t → (cond (s || t) (done r) (bind (work (a *ℚ b)) (λ product. work (r +ℚ product)))).answer ≡ r +ℚ a *ℚ b
+    by_test true t e f = ring_ℚ 2 (λ r p. 𝟙 ⊙ 𝟘 ≗ p ⟹ r ≐ r ⊕ p) tt r (a *ℚ b) (sym (no_product a b true t e f refl))
+    by_test false true e f = ring_ℚ 2 (λ r p. 𝟙 ⊙ 𝟘 ≗ p ⟹ r ≐ r ⊕ p) tt r (a *ℚ b) (sym (no_product a b false true e f refl))
+    by_test false false e f = refl

@@ -1,12 +1,9 @@
 -- Lists by their indices: a list made from the indices 0 to n - 1, and vectors that are the same item by item.
 use Rattle.std.proofs.Common.{◌≡◌, ℕ, ◌<◌, List, map, length, get_or, sym, ◌∙◌, subst, arith, ext_get_or}
-use Rattle.std.proofs.lemmas.List.FromFn.{get_or-map-range_with_len, length-map-range_with_len, length-range_with_len}
+use Rattle.std.proofs.lemmas.List.FromFn.{get_or-map-range_with_len, length-map-range_with_len}
 use Rattle.rational.specs.Rational.{ℚ, zero_ℚ}
 use Rattle.rational.specs.Sum.{at}
 use Rattle.rational.specs.Sparse.{upto}
-
-pub length-upto : (n : ℕ) → length (upto n) ≡ n
-length-upto n = length-range_with_len 0 n
 
 -- a list made from the indices, read at an index
 pub get-map-upto : {A : Type 0} (f : ℕ → A) (d : A) (n i : ℕ) → i < n → get_or (map f (upto n)) i d ≡ f i

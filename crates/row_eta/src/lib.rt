@@ -18,7 +18,8 @@ ghost use Rattle.rational.specs.Lines as lines;
 ghost use Rattle.rational.specs.Worked.{bind, done};
 ghost use Rattle.rational.specs.Sum.{at};
 ghost use Rattle.sparse_cols.specs.Sparse.{IsRising};
-ghost use Rattle.exact_frac.specs.Settles.{Leaves, unfit_by};
+ghost use Rattle.exact_frac.specs.Count.{unfit_after};
+ghost use Rattle.exact_frac.specs.Settles.{Leaves};
 ghost use Rattle.factor_model.specs.Eta as eta;
 ghost use Rattle.factor_model.specs.Eta.{AreOps, IsOp, entries, stored, transposed};
 
@@ -62,7 +63,7 @@ fn column<A: Arith>(
     requires rows { IsRising (length v.old) 0 k.now.pairs }
     ensures settled { Leaves (A.width arith.old) (lines.subtract p (at v.old p) v.old k.now.pairs) result v.new }
     ensures width { A.width arith.new ≡ A.width arith.old }
-    ensures unfit { A.unfit_count arith.new ≡ unfit_by (A.unfit_count arith.old) result }
+    ensures unfit { A.unfit_count arith.new ≡ unfit_after (A.unfit_count arith.old) result }
     ensures work { A.work_count arith.new ≤ A.work_count arith.old + length k.now.pairs }
 {
     let x = v[p];
@@ -75,7 +76,7 @@ fn row<A: Arith>(p: usize, k: &SparseCol<Frac>, v: &mut [Frac], arith: &mut A) -
     requires rows { IsRising (length v.old) 0 k.now.pairs }
     ensures settled { Leaves (A.width arith.old) (bind (lines.gather p v.old (at v.old p) k.now.pairs) (λ rest. done (slice_set v.old p rest))) result v.new }
     ensures width { A.width arith.new ≡ A.width arith.old }
-    ensures unfit { A.unfit_count arith.new ≡ unfit_by (A.unfit_count arith.old) result }
+    ensures unfit { A.unfit_count arith.new ≡ unfit_after (A.unfit_count arith.old) result }
     ensures work { A.work_count arith.new ≤ A.work_count arith.old + length k.now.pairs }
 {
     let item = v[p];
@@ -92,7 +93,7 @@ fn operate<A: Arith>(op: &Op, v: &mut [Frac], arith: &mut A) -> Result<(), Unfit
     requires { IsOp (length v.old) op.now }
     ensures settled { Leaves (A.width arith.old) (eta.operate op.now v.old) result v.new }
     ensures width { A.width arith.new ≡ A.width arith.old }
-    ensures unfit { A.unfit_count arith.new ≡ unfit_by (A.unfit_count arith.old) result }
+    ensures unfit { A.unfit_count arith.new ≡ unfit_after (A.unfit_count arith.old) result }
     ensures work { A.work_count arith.new ≤ A.work_count arith.old + entries op.now }
 {
     match op {
@@ -105,7 +106,7 @@ fn operate_transposed<A: Arith>(op: &Op, v: &mut [Frac], arith: &mut A) -> Resul
     requires { IsOp (length v.old) op.now }
     ensures settled { Leaves (A.width arith.old) (eta.operate (transposed op.now) v.old) result v.new }
     ensures width { A.width arith.new ≡ A.width arith.old }
-    ensures unfit { A.unfit_count arith.new ≡ unfit_by (A.unfit_count arith.old) result }
+    ensures unfit { A.unfit_count arith.new ≡ unfit_after (A.unfit_count arith.old) result }
     ensures work { A.work_count arith.new ≤ A.work_count arith.old + entries op.now }
 {
     match op {
@@ -149,14 +150,11 @@ impl EtaFile {
         requires { AreOps (length v.old) self.now }
         ensures settled { Leaves (A.width arith.old) (eta.apply v.old self.now) result v.new }
         ensures width { A.width arith.new ≡ A.width arith.old }
-        ensures unfit { A.unfit_count arith.new ≡ unfit_by (A.unfit_count arith.old) result }
+        ensures unfit { A.unfit_count arith.new ≡ unfit_after (A.unfit_count arith.old) result }
         ensures work { A.work_count arith.new ≤ A.work_count arith.old + stored self.now }
     {
         for op in &self.ops {
-            match operate(op, v, arith) {
-                Ok(()) => {}
-                Err(unfit) => return Err(unfit),
-            }
+            operate(op, v, arith)?;
         }
         Ok(())
     }
@@ -166,15 +164,12 @@ impl EtaFile {
         requires { AreOps (length v.old) self.now }
         ensures settled { Leaves (A.width arith.old) (eta.apply_back v.old self.now) result v.new }
         ensures width { A.width arith.new ≡ A.width arith.old }
-        ensures unfit { A.unfit_count arith.new ≡ unfit_by (A.unfit_count arith.old) result }
+        ensures unfit { A.unfit_count arith.new ≡ unfit_after (A.unfit_count arith.old) result }
         ensures work { A.work_count arith.new ≤ A.work_count arith.old + stored self.now }
     {
         let count = self.ops.len();
         for k in 0..count {
-            match operate_transposed(&self.ops[count - 1 - k], v, arith) {
-                Ok(()) => {}
-                Err(unfit) => return Err(unfit),
-            }
+            operate_transposed(&self.ops[count - 1 - k], v, arith)?;
         }
         Ok(())
     }

@@ -1,15 +1,16 @@
 -- One step of a sparse loop: an item less a product.
-use Rattle.std.proofs.Common.{◌≡◌, ◌≢◌, ℕ, ◌+◌, ◌<◌, ◌≤◌, List, [], ◌∷◌, length, drop, get_or, set, eqb, arith, slice_get, Bool, true, false, Some, None, Result, Ok, Err, ◌⊎◌, inr, IsTrue, ◌↔◌, refl, sym, ◌∙◌, ap}
+use Rattle.std.proofs.Common.{◌≡◌, ◌≢◌, ℕ, ◌+◌, ◌<◌, ◌≤◌, List, [], ◌∷◌, length, drop, get_or, set, eqb, arith, slice_get, Bool, true, false, Some, None, Result, Ok, Err, ◌⊎◌, inr, IsTrue, IsErrAnd, MatchResult, ◌↔◌, refl, sym, subst, ◌∙◌, ap}
 use Rattle.std.proofs.lemmas.List.{at_drop_more, at_drop_all, get_or_default, set-get_or}
+use Rattle.std.proofs.lemmas.Result.{err_from_is_err_and}
 use Rattle.std.proofs.lemmas.Option.{get_or_from_slice_get}
 use Rattle.rational.specs.Lines.{gather, subtract}
 use Rattle.rational.specs.Sum.{at}
 use Rattle.sparse_cols.specs.Sparse.{IsRising}
 use Rattle.sparse_cols.proofs.Pairs.{row_below}
-use Rattle.rational.specs.Rational.{ℚ, zero_ℚ, ◌-ℚ◌, ◌*ℚ◌}
+use Rattle.rational.specs.Rational.{ℚ, zero_ℚ, ◌+ℚ◌, ◌-ℚ◌, ◌*ℚ◌}
 use Rattle.rational.specs.Width.{FitsWidth}
-use Rattle.rational.specs.Worked.{Worked, done, work, bind, settle, less, less_unless}
-use Rattle.rational.proofs.Settling.{settle-done, settle-work, settle-work_none, settle-bind, settle-bind_none, less-none, less-some, less_unless-out, less_unless-in}
+use Rattle.rational.specs.Worked.{Worked, done, work, bind, settle, less, less_unless, more}
+use Rattle.rational.proofs.Settling.{settle-done, settle-work, settle-work_none, settle-bind, settle-bind_none, less-none, less-some, more-none, more-some, less_unless-out, less_unless-in}
 use Rattle.exact_frac.specs.declared.unfit.Unfit.{Unfit}
 use Rattle.exact_frac.specs.Exact.{Exact}
 use Rattle.exact_frac.specs.Settles.{Settles}
@@ -19,6 +20,11 @@ use Rattle.exact_frac.proofs.Working.{settles-exact}
 settles_too : {A : Type 0} (u w : ℕ) (c d : Worked A) (r : Result A Unfit) → settle w c ≡ settle u d → Settles u d r → Settles w c r
 settles_too u w c d (Ok a) e h = e ∙ h
 settles_too u w c d (Err f) e h = e ∙ h
+
+-- what does not settle answers a refusal, which is handed on
+pub refused : {A B : Type 0} {e : Unfit} (w : ℕ) (c : Worked A) (r : Result B Unfit) (left : B → A) → settle w c ≡ None → IsErrAnd r (λ f. f ≡ e)
+    → MatchResult r (λ b. settle w c ≡ Some (left b)) (λ _. settle w c ≡ None)
+refused w c r left none is = let at = err_from_is_err_and r is in subst (λ s. MatchResult s (λ b. settle w c ≡ Some (left b)) (λ _. settle w c ≡ None)) (sym at.1) none
 
 pub skipped : (w : ℕ) (x a b : ℚ) → (a ≡ zero_ℚ) ⊎ (b ≡ zero_ℚ) → settle w (less x a b) ≡ Some x
 skipped w x a b none = ap (settle w) (less-none x a b none) ∙ settle-done w x
@@ -37,6 +43,24 @@ settled_rest u w x a b product r same left right fits exact =
     ∙ ap (λ p. settle w (work (x -ℚ p))) (sym fits.0)
     ∙ ap (λ v. settle v (work (x -ℚ product))) (sym same))
     (settles-exact u (x -ℚ product) r exact)
+
+-- the same of a sum
+pub skipped_sum : (w : ℕ) (x a b : ℚ) → (a ≡ zero_ℚ) ⊎ (b ≡ zero_ℚ) → settle w (more x a b) ≡ Some x
+skipped_sum w x a b none = ap (settle w) (more-none x a b none) ∙ settle-done w x
+
+pub unfit_sum : (w : ℕ) (x a b : ℚ) → a ≢ zero_ℚ → b ≢ zero_ℚ → ¬ FitsWidth w (a *ℚ b) → settle w (more x a b) ≡ None
+unfit_sum w x a b left right unfit =
+    ap (settle w) (more-some x a b left right) ∙ settle-bind_none w (work (a *ℚ b)) (λ product. work (x +ℚ product)) (settle-work_none w (a *ℚ b) unfit)
+
+pub settled_sum : (u w : ℕ) (x a b product : ℚ) (r : Result ℚ Unfit) → u ≡ w → a ≢ zero_ℚ → b ≢ zero_ℚ → (product ≡ a *ℚ b) × FitsWidth w (a *ℚ b)
+    → Exact u (x +ℚ product) r → Settles w (more x a b) r
+settled_sum u w x a b product r same left right fits exact =
+    settles_too u w (more x a b) (work (x +ℚ product)) r
+    (ap (settle w) (more-some x a b left right)
+    ∙ settle-bind w (work (a *ℚ b)) (λ p. work (x +ℚ p)) (a *ℚ b) (settle-work w (a *ℚ b) fits.1)
+    ∙ ap (λ p. settle w (work (x +ℚ p))) (sym fits.0)
+    ∙ ap (λ v. settle v (work (x +ℚ product))) (sym same))
+    (settles-exact u (x +ℚ product) r exact)
 
 pub left_out : (w : ℕ) (out : Bool) (x a b : ℚ) → out ≡ true → settle w (less_unless out x a b) ≡ Some x
 left_out w out x a b e = ap (settle w) (less_unless-out out x a b e) ∙ settle-done w x

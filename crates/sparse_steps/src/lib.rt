@@ -16,10 +16,11 @@
 #![tactic(auto)]
 
 ghost use Rattle.std.specs.Prelude.{◌≡◌, ◌+◌, ◌≤◌, length};
-ghost use Rattle.rational.specs.Worked.{less, less_unless};
+ghost use Rattle.rational.specs.Worked.{less, less_unless, more};
 ghost use Rattle.rational.specs.Lines as lines;
 ghost use Rattle.sparse_cols.specs.Sparse.{IsRising};
-ghost use Rattle.exact_frac.specs.Settles.{Settles, Leaves, unfit_by};
+ghost use Rattle.exact_frac.specs.Count.{unfit_after};
+ghost use Rattle.exact_frac.specs.Settles.{Settles, Leaves};
 
 use exact_frac::{Arith, Frac, Unfit};
 use sparse_cols::SparseCol;
@@ -28,23 +29,35 @@ use sparse_cols::SparseCol;
 pub fn less_product<A: Arith>(x: Frac, a: Frac, b: Frac, arith: &mut A) -> Result<Frac, Unfit>
     ensures settled { Settles (A.width arith.old) (less x a b) result }
     ensures width { A.width arith.new ≡ A.width arith.old }
-    ensures unfit { A.unfit_count arith.new ≡ unfit_by (A.unfit_count arith.old) result }
+    ensures unfit { A.unfit_count arith.new ≡ unfit_after (A.unfit_count arith.old) result }
     ensures work { A.work_count arith.new ≤ A.work_count arith.old + 1 }
 {
     if a.is_zero() || b.is_zero() {
         return Ok(x);
     }
-    match arith.mul(a, b) {
-        Ok(product) => arith.sub(x, product),
-        Err(unfit) => Err(unfit),
+    let product = arith.mul(a, b)?;
+    arith.sub(x, product)
+}
+
+/// `x` and the product of `a` and `b`, at most one product. A product of 0 is skipped.
+pub fn more_product<A: Arith>(x: Frac, a: Frac, b: Frac, arith: &mut A) -> Result<Frac, Unfit>
+    ensures settled { Settles (A.width arith.old) (more x a b) result }
+    ensures width { A.width arith.new ≡ A.width arith.old }
+    ensures unfit { A.unfit_count arith.new ≡ unfit_after (A.unfit_count arith.old) result }
+    ensures work { A.work_count arith.new ≤ A.work_count arith.old + 1 }
+{
+    if a.is_zero() || b.is_zero() {
+        return Ok(x);
     }
+    let product = arith.mul(a, b)?;
+    arith.add(x, product)
 }
 
 // The same, unless it is left out.
 fn less_unless<A: Arith>(out: bool, x: Frac, a: Frac, b: Frac, arith: &mut A) -> Result<Frac, Unfit>
     ensures settled { Settles (A.width arith.old) (less_unless out x a b) result }
     ensures width { A.width arith.new ≡ A.width arith.old }
-    ensures unfit { A.unfit_count arith.new ≡ unfit_by (A.unfit_count arith.old) result }
+    ensures unfit { A.unfit_count arith.new ≡ unfit_after (A.unfit_count arith.old) result }
     ensures work { A.work_count arith.new ≤ A.work_count arith.old + 1 }
 {
     if out {
@@ -65,17 +78,14 @@ pub fn gather<A: Arith>(
     requires { IsRising (length v.now) 0 column.now.pairs }
     ensures settled { Settles (A.width arith.old) (lines.gather skip v.now r column.now.pairs) result }
     ensures width { A.width arith.new ≡ A.width arith.old }
-    ensures unfit { A.unfit_count arith.new ≡ unfit_by (A.unfit_count arith.old) result }
+    ensures unfit { A.unfit_count arith.new ≡ unfit_after (A.unfit_count arith.old) result }
     ensures work { A.work_count arith.new ≤ A.work_count arith.old + length column.now.pairs }
 {
     let mut rest = r;
     for k in 0..column.count() {
         let (i, e) = column.pair(k);
         let item = v[i];
-        match less_unless(i == skip, rest, e, item, arith) {
-            Ok(less) => rest = less,
-            Err(unfit) => return Err(unfit),
-        }
+        rest = less_unless(i == skip, rest, e, item, arith)?;
     }
     Ok(rest)
 }
@@ -92,7 +102,7 @@ pub fn subtract<A: Arith>(
     requires { IsRising (length v.old) 0 column.now.pairs }
     ensures settled { Leaves (A.width arith.old) (lines.subtract skip x v.old column.now.pairs) result v.new }
     ensures width { A.width arith.new ≡ A.width arith.old }
-    ensures unfit { A.unfit_count arith.new ≡ unfit_by (A.unfit_count arith.old) result }
+    ensures unfit { A.unfit_count arith.new ≡ unfit_after (A.unfit_count arith.old) result }
     ensures work { A.work_count arith.new ≤ A.work_count arith.old + length column.now.pairs }
 {
     if x.is_zero() {
@@ -101,10 +111,7 @@ pub fn subtract<A: Arith>(
     for k in 0..column.count() {
         let (i, e) = column.pair(k);
         let item = v[i];
-        match less_unless(i == skip, item, e, x, arith) {
-            Ok(less) => v[i] = less,
-            Err(unfit) => return Err(unfit),
-        }
+        v[i] = less_unless(i == skip, item, e, x, arith)?;
     }
     Ok(())
 }

@@ -17,7 +17,8 @@
 ghost use Rattle.std.specs.Prelude.{◌≡◌, ◌≢◌, ◌+◌, ◌≤◌, ◌<◌, length, replicate, reverse, ◌∷◌, Some, IfSome, OnOk, slice_set};
 ghost use Rattle.chain_links.specs.Lists.{rest};
 ghost use Rattle.rational.specs.Rational.{zero_ℚ};
-ghost use Rattle.exact_frac.specs.Settles.{Leaves, Settles, unfit_by};
+ghost use Rattle.exact_frac.specs.Count.{unfit_after};
+ghost use Rattle.exact_frac.specs.Settles.{Leaves, Settles};
 ghost use Rattle.factor_model.specs.Upper as upper;
 ghost use Rattle.factor_model.specs.Upper.{IsUpper, Solves, SolvesBack, by_position, place_one, solve_one, solve_rows, solve_work};
 
@@ -101,16 +102,13 @@ impl Upper {
         requires { length v.old ≡ length self.now.rows }
         ensures settled { Leaves (A.width arith.old) (solve_rows self.now v.old (reverse self.now.order)) result v.new }
         ensures width { A.width arith.new ≡ A.width arith.old }
-        ensures unfit { A.unfit_count arith.new ≡ unfit_by (A.unfit_count arith.old) result }
+        ensures unfit { A.unfit_count arith.new ≡ unfit_after (A.unfit_count arith.old) result }
         ensures work { A.work_count arith.new ≤ A.work_count arith.old + solve_work self.now (reverse self.now.order) }
     {
         let mut next = self.last();
         while let Some(p) = next {
             next = self.before(p);
-            match self.solve_position(p, v, arith) {
-                Ok(()) => {}
-                Err(unfit) => return Err(unfit),
-            }
+            self.solve_position(p, v, arith)?;
         }
         Ok(())
     }
@@ -121,7 +119,7 @@ impl Upper {
         requires length { length v.old ≡ length self.now.rows }
         ensures settled { Leaves (A.width arith.old) (solve_one self.now v.old p) result v.new }
         ensures width { A.width arith.new ≡ A.width arith.old }
-        ensures unfit { A.unfit_count arith.new ≡ unfit_by (A.unfit_count arith.old) result }
+        ensures unfit { A.unfit_count arith.new ≡ unfit_after (A.unfit_count arith.old) result }
         ensures work { A.work_count arith.new ≤ A.work_count arith.old + (1 + length (upper.column self.now p)) }
     {
         let row = self.row_of(p);
@@ -146,7 +144,7 @@ impl Upper {
         requires length { length v.old ≡ length self.now.rows }
         ensures settled { Leaves (A.width arith.old) (place_one self.now v.old p x) result v.new }
         ensures width { A.width arith.new ≡ A.width arith.old }
-        ensures unfit { A.unfit_count arith.new ≡ unfit_by (A.unfit_count arith.old) result }
+        ensures unfit { A.unfit_count arith.new ≡ unfit_after (A.unfit_count arith.old) result }
         ensures work { A.work_count arith.new ≤ A.work_count arith.old + length (upper.column self.now p) }
     {
         match subtract(row, x, v, &self.columns[p], arith) {
@@ -187,7 +185,7 @@ impl Upper {
         ensures settled { Leaves (A.width arith.old) (upper.solve self.now v.old) result out.new }
         ensures solves { OnOk result (Solves self.now out.new v.old) }
         ensures width { A.width arith.new ≡ A.width arith.old }
-        ensures unfit { A.unfit_count arith.new ≡ unfit_by (A.unfit_count arith.old) result }
+        ensures unfit { A.unfit_count arith.new ≡ unfit_after (A.unfit_count arith.old) result }
         ensures work { A.work_count arith.new ≤ A.work_count arith.old + solve_work self.now (reverse self.now.order) }
     {
         let _ = &self.columns;
@@ -224,7 +222,7 @@ impl Upper {
         ensures settled { Leaves (A.width arith.old) (upper.solve_back self.now c.now) result out.new }
         ensures solves { OnOk result (SolvesBack self.now out.new c.now) }
         ensures width { A.width arith.new ≡ A.width arith.old }
-        ensures unfit { A.unfit_count arith.new ≡ unfit_by (A.unfit_count arith.old) result }
+        ensures unfit { A.unfit_count arith.new ≡ unfit_after (A.unfit_count arith.old) result }
         ensures work { A.work_count arith.new ≤ A.work_count arith.old + solve_work self.now self.now.order }
     {
         let _ = &self.columns;
@@ -232,10 +230,8 @@ impl Upper {
         let mut next = self.first();
         while let Some(p) = next {
             next = self.after(p);
-            match self.back_item(p, c, out, arith) {
-                Ok(item) => out[self.row_of(p)] = item,
-                Err(unfit) => return Err(unfit),
-            }
+            let item = self.back_item(p, c, out, arith)?;
+            out[self.row_of(p)] = item;
         }
         Ok(())
     }
@@ -253,7 +249,7 @@ impl Upper {
         requires length { length z.now ≡ length self.now.rows }
         ensures settled { Settles (A.width arith.old) (upper.back_item self.now c.now z.now p) result }
         ensures width { A.width arith.new ≡ A.width arith.old }
-        ensures unfit { A.unfit_count arith.new ≡ unfit_by (A.unfit_count arith.old) result }
+        ensures unfit { A.unfit_count arith.new ≡ unfit_after (A.unfit_count arith.old) result }
         ensures work { A.work_count arith.new ≤ A.work_count arith.old + (1 + length (upper.column self.now p)) }
     {
         let row = self.row_of(p);

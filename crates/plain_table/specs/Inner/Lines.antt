@@ -1,22 +1,16 @@
 -- What is listed where a line of numbers is worked by column, and what becomes of the line.
-use Rattle.std.specs.Prelude.{◌≡◌, ℕ, ◌<◌, List, map, length, Some, Result, Ok, Err, MatchResult}
+use Rattle.std.specs.Prelude.{◌≡◌, ℕ, ◌<◌, List, map, length, Some, Result, MatchResult}
 use Rattle.std.specs.List.{flat_map}
 use Rattle.lp_model.specs.declared.Place.{Place}
 use Rattle.rational.specs.Rational.{ℚ, ◌-ℚ◌, ◌*ℚ◌, ◌/ℚ◌}
 use Rattle.rational.specs.Sparse.{upto}
 use Rattle.rational.specs.Sum.{at}
 use Rattle.rational.specs.Worked.{less, placed}
-use Rattle.exact_frac.specs.Count.{raised}
 use Rattle.lp_run.specs.Listing.{AllFit, Listed, first_unfit}
 
 -- the answer is the place of the first listed value that does not fit, and Ok where all fit
 abbrev pub Judges : {A : Type 0} → ℕ → List Listed → Result A Place → Type 0
 Judges w vs result = MatchResult result (λ _. AllFit w vs) (λ here. first_unfit w vs ≡ Some here)
-
--- the count of unfit results after a call: raised by one exactly at a refusal
-abbrev pub counted : {A E : Type 0} → ℕ → Result A E → ℕ
-counted count (Ok answer) = count
-counted count (Err refusal) = raised count 1
 
 -- the place in a column
 abbrev pub in_column : Place → ℕ → Place

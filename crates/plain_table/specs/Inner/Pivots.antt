@@ -17,9 +17,13 @@ quotients line pivot = map (λ x. x /ℚ pivot) line
 abbrev pub pivot_line : Pivot → List (List ℚ) → List ℚ
 pivot_line v rows = quotients (get_or rows v.position []) (at (get_or rows v.position []) v.column)
 
+-- the pivot row as it is divided
+abbrev pub line_listing : Pivot → List (List ℚ) → List Listed
+line_listing v rows = quotients_listing (place v.number kind.Entry (Some v.position) None) (get_or rows v.position []) (at (get_or rows v.position []) v.column)
+
 abbrev pub swap_listing : Pivot → List ℚ → List (List ℚ) → List ℚ → List ℚ → List Listed
 swap_listing v alpha rows values costs =
-    quotients_listing (place v.number kind.Entry (Some v.position) None) (get_or rows v.position []) (at (get_or rows v.position []) v.column)
+    line_listing v rows
     ++ rows_listing v.number v.position v.column (pivot_line v rows) rows
     ++ values_listing v.number v.position v.down v.rest v.ratio values alpha
     ++ less_listing (place v.number kind.Cost None None) costs (at costs v.column) (pivot_line v rows)

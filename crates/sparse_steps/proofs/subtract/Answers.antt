@@ -1,7 +1,7 @@
 -- Each step works the next pair of the column.
 use Rattle.std.proofs.Common.{◌<◌, length, ◌∙◌, rules, arith}
 use Rattle.rational.proofs.Loops.{step_settles, step_stops, all_worked}
-use Rattle.sparse_steps.proofs.Steps.{row_within, item_read, subtract_parts, subtract_ends, subtract_none}
+use Rattle.sparse_steps.proofs.Steps.{refused, row_within, item_read, subtract_parts, subtract_ends, subtract_none}
 use Rattle.sparse_steps.proofs.subtract.Goals as goal
 
 pub returns-then-is_zero-clause-settled : goal.returns-then-is_zero-clause-settled
@@ -18,26 +18,26 @@ bounds-v-i g c =
     let column = c.args.column.now in
     omega (arith, row_within (length c.args.v.now) column.pairs c.loop-k.k c.pair-i.result c.requires (omega arith) c.pair-i.ensures.value)
 
-pub offset_bounds-v-i-in-Ok : goal.offset_bounds-v-i-in-Ok
-offset_bounds-v-i-in-Ok g c =
+pub offset_bounds-v-i-in-loop-k : goal.offset_bounds-v-i-in-loop-k
+offset_bounds-v-i-in-loop-k g c =
     let column = c.args.column.now in
     let below : c.pair-i.result.0 < length c.loop-k.v = omega (arith, row_within (length c.args.v.now) column.pairs c.loop-k.k c.pair-i.result c.requires (omega arith) c.pair-i.ensures.value) in
     search rules
 
-pub bounds-v-i-in-Ok : goal.bounds-v-i-in-Ok
-bounds-v-i-in-Ok g c =
+pub bounds-v-i-in-loop-k : goal.bounds-v-i-in-loop-k
+bounds-v-i-in-loop-k g c =
     let column = c.args.column.now in
     omega (arith, row_within (length c.args.v.now) column.pairs c.loop-k.k c.pair-i.result c.requires (omega arith) c.pair-i.ensures.value)
 
-pub returns-in-Err-clause-settled : goal.returns-in-Err-clause-settled
-returns-in-Err-clause-settled g c =
+pub returns-in_err-v-clause-settled : goal.returns-in_err-v-clause-settled
+returns-in_err-v-clause-settled g c =
     let column = c.args.column.now in
     let p = c.pair-i.result in
     let lt : c.loop-k.k < length column.pairs = omega arith in
     let below : p.0 < length c.loop-k.v = omega (arith, row_within (length c.args.v.now) column.pairs c.loop-k.k p c.requires lt c.pair-i.ensures.value) in
     let item = item_read c.loop-k.v p.0 c.index-v-i.result below c.index-v-i.is in
-    step_stops _ _ c.loop-k.invariant.width _ _ _ (subtract_parts column.pairs c.loop-k.k p lt c.pair-i.ensures.value c.args.skip c.args.x c.loop-k.v c.index-v-i.result item)
-    _ c.loop-k.invariant.left c.in-Err.ensures.settled
+    refused _ _ _ (λ _. c.loop-k.v) (step_stops _ _ c.loop-k.invariant.width _ _ _ (subtract_parts column.pairs c.loop-k.k p lt c.pair-i.ensures.value c.args.skip c.args.x c.loop-k.v c.index-v-i.result item)
+    _ c.loop-k.invariant.left c.in_err-v.ensures.settled) c.from_residual.ensures.1
 
 pub loop-k-preserved : goal.loop-k-preserved
 loop-k-preserved g c =
@@ -49,8 +49,8 @@ loop-k-preserved g c =
     record {
       width = c.less_unless.ensures.width ∙ c.loop-k.invariant.width;
       left = step_settles _ _ c.loop-k.invariant.width _ _ _ (subtract_parts column.pairs c.loop-k.k p lt c.pair-i.ensures.value c.args.skip c.args.x c.loop-k.v c.index-v-i.result item)
-          _ c.loop-k.invariant.left _ c.in-Ok.ensures.settled;
-      unfit = c.in-Ok.ensures.unfit ∙ c.loop-k.invariant.unfit;
+          _ c.loop-k.invariant.left _ c.in_ok-v.ensures.settled;
+      unfit = c.in_ok-v.ensures.unfit ∙ c.loop-k.invariant.unfit;
       work = omega arith;
     }
 

@@ -34,6 +34,6 @@ returns-in-Artificial-clause-settled g c =
     let i = c.in-Artificial.i in
     let below : i < row_count c.args.inst.now = kind_within c.args.inst.now c.args.j (column.Artificial i) c.requires.column c.in-Artificial.ensures in
     let priced : i < length c.args.prices.now = omega (arith, below, c.requires.prices) in
-    one_settles _ c.args.inst.now c.args.phase c.args.prices.now c.args.j i (column.Artificial i) (sign_past (passed_side c.args.inst.now i)) c.cost-cost.result c.sign_past.result
-    c.index-prices-i-in-Artificial.result c.less_product-in-Artificial.result c.in-Artificial.ensures refl below c.cost-cost.ensures (c.sign_past.ensures ∙ ap sign_past c.passed.ensures)
+    one_settles _ c.args.inst.now c.args.phase c.args.prices.now c.args.j i (column.Artificial i) (sign_past (passed_side c.args.inst.now i)) c.cost-cost.result c.sign.result
+    c.index-prices-i-in-Artificial.result c.less_product-in-Artificial.result c.in-Artificial.ensures refl below c.cost-cost.ensures c.sign.ensures
     (item_read c.args.prices.now i c.index-prices-i-in-Artificial.result priced c.index-prices-i-in-Artificial.is) c.less_product-in-Artificial.ensures.settled

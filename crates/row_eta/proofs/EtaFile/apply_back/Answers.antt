@@ -3,11 +3,12 @@ use Rattle.std.proofs.Common.{◌≡◌, ◌-◌, ◌<◌, ◌≤◌, List, leng
 use Rattle.rational.proofs.Loops.{step_settles, step_stops, all_worked}
 use Rattle.factor_model.specs.declared.Op.{Op}
 use Rattle.factor_model.specs.Eta.{transposed}
+use Rattle.sparse_steps.proofs.Steps.{refused}
 use Rattle.row_eta.proofs.Steps.{apply_parts, apply_ends, stored_parts, op_back, length_back, stored_back, entries_transposed}
 use Rattle.row_eta.proofs.EtaFile.apply_back.Goals as goal
 
-pub returns-in-Err-clause-settled : goal.returns-in-Err-clause-settled
-returns-in-Err-clause-settled g c =
+pub returns-in_err-operate_transposed-clause-settled : goal.returns-in_err-operate_transposed-clause-settled
+returns-in_err-operate_transposed-clause-settled g c =
     let ops = c.args.self.now in
     let k = c.loop-k.k in
     let op = c.index.result.now in
@@ -17,10 +18,10 @@ returns-in-Err-clause-settled g c =
     let found = op_back ops k op lt (subst (λ n. op ≡ get_or ops (n - 1 - k) op) count (subst (λ (xs : List Op). op ≡ get_or xs (c.len-count.result - 1 - k) op) same c.index.ensures)) in
     let back = map transposed (reverse ops) in
     let within : k < length back = omega (arith, length_back ops) in
-    step_stops _ _ c.loop-k.invariant.width _ _ _ (apply_parts back k (transposed op) within found c.loop-k.v) _ c.loop-k.invariant.left c.in-Err.ensures.settled
+    refused _ _ _ (λ _. c.operate_transposed.new.v) (step_stops _ _ c.loop-k.invariant.width _ _ _ (apply_parts back k (transposed op) within found c.loop-k.v) _ c.loop-k.invariant.left c.in_err-operate_transposed.ensures.settled) c.from_residual.ensures.1
 
-pub returns-in-Err-clause-work : goal.returns-in-Err-clause-work
-returns-in-Err-clause-work g c =
+pub returns-in_err-operate_transposed-clause-work : goal.returns-in_err-operate_transposed-clause-work
+returns-in_err-operate_transposed-clause-work g c =
     let ops = c.args.self.now in
     let k = c.loop-k.k in
     let op = c.index.result.now in
@@ -30,7 +31,7 @@ returns-in-Err-clause-work g c =
     let found = op_back ops k op lt (subst (λ n. op ≡ get_or ops (n - 1 - k) op) count (subst (λ (xs : List Op). op ≡ get_or xs (c.len-count.result - 1 - k) op) same c.index.ensures)) in
     let back = map transposed (reverse ops) in
     let within : k < length back = omega (arith, length_back ops) in
-    omega (arith, stored_parts back k (transposed op) within found, stored_back ops, entries_transposed op, c.in-Err.ensures.work)
+    omega (arith, stored_parts back k (transposed op) within found, stored_back ops, entries_transposed op, c.in_err-operate_transposed.ensures.work)
 
 pub loop-k-preserved : goal.loop-k-preserved
 loop-k-preserved g c =
@@ -46,8 +47,8 @@ loop-k-preserved g c =
     record {
       width = c.operate_transposed.ensures.width ∙ c.loop-k.invariant.width;
       length = c.operate_transposed.auto.v ∙ c.loop-k.invariant.length;
-      left = step_settles _ _ c.loop-k.invariant.width _ _ _ (apply_parts back k (transposed op) within found c.loop-k.v) _ c.loop-k.invariant.left _ c.in-Ok.ensures.settled;
-      unfit = c.in-Ok.ensures.unfit ∙ c.loop-k.invariant.unfit;
+      left = step_settles _ _ c.loop-k.invariant.width _ _ _ (apply_parts back k (transposed op) within found c.loop-k.v) _ c.loop-k.invariant.left _ c.in_ok-operate_transposed.ensures.settled;
+      unfit = c.in_ok-operate_transposed.ensures.unfit ∙ c.loop-k.invariant.unfit;
       work = omega (arith, stored_parts back k (transposed op) within found, entries_transposed op);
     }
 

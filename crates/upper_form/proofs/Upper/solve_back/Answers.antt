@@ -7,6 +7,7 @@ use Rattle.std.proofs.lemmas.List.Sums.{sum_by-cons}
 use Rattle.chain_links.specs.Lists.{rest}
 use Rattle.rational.proofs.Loops.{step_settles, step_stops, all_worked}
 use Rattle.factor_model.proofs.UpperLaws.{solve_back_solves}
+use Rattle.sparse_steps.proofs.Steps.{refused}
 use Rattle.upper_form.proofs.Walk.{nothing_left}
 use Rattle.upper_form.proofs.Upper.solve_back.Goals as goal
 
@@ -36,11 +37,11 @@ loop-next-preserved g c =
     record {
       position = c.after-next.ensures.position;
       width = c.back_item.ensures.width ∙ c.loop-next.invariant.width;
-      length = length-set c.loop-next.out c.row_of.result c.in-Ok.item ∙ c.loop-next.invariant.length;
+      length = length-set c.loop-next.out c.row_of.result c.in_ok-item.item ∙ c.loop-next.invariant.length;
       left =
-          ap (λ r. settle (g.A.Arith.width c.args.arith.now) (solve_positions u c.args.c.now (set c.loop-next.out r c.in-Ok.item) (rest next u.order))) c.row_of.ensures.value
-          ∙ step_settles _ _ c.loop-next.invariant.width (back_item u c.args.c.now c.loop-next.out p) go _ parts _ c.loop-next.invariant.left _ c.in-Ok.ensures.settled;
-      unfit = c.in-Ok.ensures.unfit ∙ c.loop-next.invariant.unfit;
+          ap (λ r. settle (g.A.Arith.width c.args.arith.now) (solve_positions u c.args.c.now (set c.loop-next.out r c.in_ok-item.item) (rest next u.order))) c.row_of.ensures.value
+          ∙ step_settles _ _ c.loop-next.invariant.width (back_item u c.args.c.now c.loop-next.out p) go _ parts _ c.loop-next.invariant.left _ c.in_ok-item.ensures.settled;
+      unfit = c.in_ok-item.ensures.unfit ∙ c.loop-next.invariant.unfit;
       work =
           omega (
             arith,
@@ -50,15 +51,15 @@ loop-next-preserved g c =
           );
     }
 
-pub returns-in-Err-clause-settled : goal.returns-in-Err-clause-settled
-returns-in-Err-clause-settled g c =
+pub returns-in_err-item-clause-settled : goal.returns-in_err-item-clause-settled
+returns-in_err-item-clause-settled g c =
     let u = c.args.self.now in
     let p = c.in-Some.p in
     let next = c.after-next.result in
     let walk = solve_positions u c.args.c.now c.loop-next.out in
     let parts = ap (λ o. walk (rest o u.order)) c.in-Some.is ∙ ap walk c.after-next.ensures.rest in
     let go = λ (item : ℚ). solve_positions u c.args.c.now (set c.loop-next.out (row_of u p) item) (rest next u.order) in
-    step_stops _ _ c.loop-next.invariant.width (back_item u c.args.c.now c.loop-next.out p) go _ parts _ c.loop-next.invariant.left c.in-Err.ensures.settled
+    refused _ _ _ (λ _. c.loop-next.out) (step_stops _ _ c.loop-next.invariant.width (back_item u c.args.c.now c.loop-next.out p) go _ parts _ c.loop-next.invariant.left c.in_err-item.ensures.settled) c.from_residual.ensures.1
 
 pub returns-clause-settled : goal.returns-clause-settled
 returns-clause-settled g c =

@@ -1,0 +1,5 @@
+pub mod Closings
+pub mod Complete
+pub mod Runs
+pub mod Shown
+pub mod Totals

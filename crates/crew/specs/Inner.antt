@@ -1,0 +1,2 @@
+-- inner: what the parts of a solve answer.
+pub mod Parts

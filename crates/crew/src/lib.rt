@@ -1,0 +1,23 @@
+//! The solver: a run from its start to its end, and its outcome.
+//!
+//! **Model.** An instance, its states and its run are those of `lp_run`; a log is a list of entries, an outcome an optimal
+//! point with its prices, a Farkas row, or a feasible point with a ray.
+//!
+//! **Contract.** [`solve_alone`] answers the outcome of the instance's one run, with the log and its moves, within the budget
+//! (`HasClosed`); or a fault with its cause (`IsCause`): the place of the first value that the run lists and that does not fit
+//! the width of the arithmetic, a run with more moves than the budget, or want of memory. It waits for nobody, and ends by
+//! Bland's theorem.
+//!
+//! It stands on `plain_table` for the table and its steps, on `bland_laws` for the end of runs, and on `instance_model`,
+//! `deck_model` and `exact_frac`.
+#![tactic(auto)]
+
+mod closing;
+mod faults;
+mod objective;
+mod points;
+mod solving;
+
+pub use closing::Closed;
+pub use faults::CrewFault;
+pub use solving::solve_alone;

@@ -1,0 +1,2 @@
+-- inner: what the parts of the making work and list.
+pub mod Starts

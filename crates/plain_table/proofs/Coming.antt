@@ -1,0 +1,168 @@
+-- What comes next at a table that stands at a state.
+use Rattle.std.proofs.Common.{◌≡◌, ℕ, ◌<◌, ◌↔◌, IsTrue, IfOk, IfErr, IsErrAnd, Result, inl, inr, Bool, true, false, cond, not, List, [], ◌∷◌, ◌++◌, length, Option, Some, None, refl, sym, ◌∙◌, ap, subst, arith}
+use Rattle.lp_model.specs.declared.Entry.{Entry}
+use Rattle.lp_model.specs.declared.Entry.TheVariants.{Flip, Swap}
+use Rattle.lp_model.specs.declared.Kind.TheVariants as kind
+use Rattle.lp_model.specs.declared.Place.{Place}
+use Rattle.lp_model.specs.declared.Side.{Side}
+use Rattle.std.proofs.lemmas.Result.{err_from_is_err_and}
+use Rattle.std.specs.Option.{option_map}
+use Rattle.rational.specs.Rational.{ℚ, zero_ℚ, one_ℚ, neg_ℚ, lt_ℚ, eq_ℚ, ◌-ℚ◌, ◌/ℚ◌, abs_ℚ}
+use Rattle.rational.specs.Sum.{at}
+use Rattle.rational.proofs.OrderLaws.{eq_ℚ-decides}
+use Rattle.rational.proofs.VectorLaws.{list_of}
+use Rattle.bland_ratio.specs.Leave.{Decides, direction_where}
+use Rattle.lp_run.specs.Instance.{Instance, bounds, row_count}
+use Rattle.lp_run.specs.Listing.{AllFit, first_unfit, move_listing, place, ratio_listing}
+use Rattle.lp_run.specs.Solution.{reduced}
+use Rattle.lp_run.specs.State.{State, basic}
+use Rattle.lp_run.specs.Step.{Enters, IsArtificial, IsFree, IsLimit, Leaves, Limit, Pivoting, direction, distance_at, limit_at, own_limit}
+use Rattle.lp_run.proofs.FirstUnfit.{all-append, all-flat_map, unfit-append}
+use Rattle.bland_laws.proofs.Searches.{Below, FirstOrNone, first_below, one_more}
+use Rattle.bland_ratio.specs.declared.ratio_test.Leave.{Leave}
+use Rattle.bland_ratio.specs.declared.ratio_test.Leave.TheVariants as leave
+use Rattle.lp_run.proofs.Regularity.{column_solves}
+use Rattle.plain_table.specs.Inner.Next.{DecidesAt, HasUnfitRatio, StandsOff, next_by}
+use Rattle.plain_table.specs.Next.{ComesNext, OverflowsNext, column, prices}
+use Rattle.plain_table.specs.Plain.{Plain, Stands, cell}
+
+-- the direction of a step, by whether the reduced cost is below 0
+pub way_where : (d : ℚ) (below : Bool) → below ≡ lt_ℚ d zero_ℚ → direction d ≡ direction_where (not below)
+way_where d below e = by_test (lt_ℚ d zero_ℚ) ∙ ap (λ t. direction_where (not t)) (sym e)
+  where
+    by_test : (t : Bool) → cond t one_ℚ (neg_ℚ one_ℚ) ≡ direction_where (not t)
+    by_test true = refl
+    by_test false = refl
+
+-- a column that was read is the table's
+pub read_is : (inst : Instance) (log : List Entry) (t : Plain) → Stands inst log t → (q : ℕ) (alpha : List ℚ) → length alpha ≡ length t.rows
+    → ((p : ℕ) → p < length t.rows → at alpha p ≡ cell t p q) → alpha ≡ column inst t q
+read_is inst log t stands q alpha long items =
+    list_of (λ p. cell t p q) (row_count inst) alpha (long ∙ stands.sized.rows) (λ p b. items p (omega (arith, stands.sized.rows)))
+
+-- what the ratio test reads is what the table shows
+pub decides_at : (inst : Instance) (t : Plain) (q : ℕ) (cost : ℚ) (values alpha : List ℚ) (r : Result Leave Place) → cost ≡ at t.costs q → values ≡ t.values → alpha ≡ column inst t q
+    → IfOk r (Decides inst t.state q (direction cost) values alpha) → IfOk r (DecidesAt inst t q)
+decides_at inst t q cost values alpha r c v a h =
+    subst (λ cost. IfOk r (Decides inst t.state q (direction cost) t.values (column inst t q))) c
+    (subst (λ values. IfOk r (Decides inst t.state q (direction cost) values (column inst t q))) v
+    (subst (λ alpha. IfOk r (Decides inst t.state q (direction cost) values alpha)) a h))
+
+pub unfit_at : (w : ℕ) (inst : Instance) (t : Plain) (q : ℕ) (cost : ℚ) (values alpha : List ℚ) (r : Result Leave Place) → cost ≡ at t.costs q → values ≡ t.values → alpha ≡ column inst t q
+    → IfErr r (λ here. first_unfit w (ratio_listing inst t.number t.state q (direction cost) values alpha) ≡ Some here) → IfErr r (HasUnfitRatio w inst t q)
+unfit_at w inst t q cost values alpha r c v a h =
+    subst (λ cost. IfErr r (λ here. first_unfit w (ratio_listing inst t.number t.state q (direction cost) t.values (column inst t q)) ≡ Some here)) c
+    (subst (λ values. IfErr r (λ here. first_unfit w (ratio_listing inst t.number t.state q (direction cost) values (column inst t q)) ≡ Some here)) v
+    (subst (λ alpha. IfErr r (λ here. first_unfit w (ratio_listing inst t.number t.state q (direction cost) values alpha) ≡ Some here)) a h))
+
+-- a refusal that is handed on has the same cause
+pub handed_on : {A E : Type 0} {e : E} (r : Result A E) (P : E → Type 0) → IsErrAnd r (λ f. f ≡ e) → P e → IfErr r P
+handed_on r P is h = let found = err_from_is_err_and r is in subst (λ r. IfErr r P) (sym found.1) (subst P (sym found.2) h)
+
+-- an artificial that does not stand off 0 is 0
+pub not_off : (inst : Instance) (s : State) (β : List ℚ) (p : ℕ) (off : Bool) → IsTrue off ↔ StandsOff inst s β p → off ≡ false → IsArtificial inst (basic s p) → at β p ≡ zero_ℚ
+not_off inst s β p off tells fails is = by_test (eq_ℚ (at β p) zero_ℚ) refl
+  where
+    apart : off ≡ true → ⊥
+    apart e = cc
+
+    other : eq_ℚ (at β p) zero_ℚ ≡ false → at β p ≡ zero_ℚ → ⊥
+    other e h = let same = (eq_ℚ-decides (at β p) zero_ℚ).1 h in cc
+
+    by_test : (b : Bool) → eq_ℚ (at β p) zero_ℚ ≡ b → at β p ≡ zero_ℚ
+    by_test true e = (eq_ℚ-decides (at β p) zero_ℚ).0 e
+    by_test false e = absurd (apart (tells.1 (is, other e)))
+
+-- ── a step without a limit has no ratio ──
+
+position_fits : (w : ℕ) (here : Place) (a : ℚ) (f : ℚ × Side → Limit) (o : Option (ℚ × Side)) → ((limit : Limit) → option_map f o ≡ Some limit → ⊥)
+    → AllFit w (elim o [ None ↦ [] | Some d ↦ (here, d.0) ∷ (here, d.0 /ℚ abs_ℚ a) ∷ [] ])
+position_fits w here a f None none = refl
+position_fits w here a f (Some d) none = absurd (none (f d) refl)
+
+own_fits : (w : ℕ) (here : Place) (q : ℕ) (lower upper : Option ℚ) → ((limit : Limit) → own_limit (record { lower = lower; upper = upper }) q ≡ Some limit → ⊥)
+    → AllFit w (elim lower [ None ↦ [] | Some l ↦ elim upper [ None ↦ [] | Some u ↦ (here, u -ℚ l) ∷ [] ] ])
+own_fits w here q None upper none = refl
+own_fits w here q (Some l) None none = refl
+own_fits w here q (Some l) (Some u) none = absurd (none (record { ratio = u -ℚ l; column = q; entry = Flip q }) refl)
+
+free_fits : (w : ℕ) (inst : Instance) (k : ℕ) (s : State) (q : ℕ) (t : ℚ) (β α : List ℚ) → IsFree inst s q t β α → AllFit w (ratio_listing inst k s q t β α)
+free_fits w inst k s q t β α free =
+    all-append w _ _
+    (all-flat_map w _ (row_count inst) (λ p b. position_fits w (place k kind.Ratio (Some p) None) (at α p)
+    (λ d. record { ratio = d.0 /ℚ abs_ℚ (at α p); column = basic s p; entry = Swap q p d.1 }) (distance_at inst s t β α p) (λ limit e. free limit (inl (p, b, e)))))
+    (own_fits w (place k kind.Ratio None (Some q)) q (bounds inst s.phase q).lower (bounds inst s.phase q).upper (λ limit e. free limit (inr e)))
+
+module _ (inst : Instance) (log : List Entry) (t : Plain) (stands : Stands inst log t) (q : ℕ) (enters : Enters inst t.state (prices inst t) q) where
+  pivoting : Pivoting inst t.state (prices inst t) t.values (column inst t q) q
+  pivoting = record {
+    prices = stands.table.prices;
+    values = stands.table.values;
+    enters = enters;
+    column = column_solves inst t.state (cell t) stands.table.columns q enters.eligible.in_range;
+  }
+
+  way : ℚ
+  way = direction (reduced inst t.state (prices inst t) q)
+
+  same_way : direction (at t.costs q) ≡ way
+  unfolding way
+  same_way = ap direction (stands.table.costs q enters.eligible.in_range)
+
+  pub comes_next : (l : Leave) → DecidesAt inst t q l → ComesNext inst t (next_by q l)
+  unfolding way
+  comes_next (leave.Flip r) decides = (
+    prices inst t,
+    t.values,
+    column inst t q,
+    q,
+    record { ratio = r; column = q; entry = Flip q },
+    pivoting,
+    subst (λ c. Leaves inst t.state q c t.values (column inst t q) (record { ratio = r; column = q; entry = Flip q })) same_way decides,
+    refl,
+  )
+  comes_next (leave.Out p end r) decides = (
+    prices inst t,
+    t.values,
+    column inst t q,
+    q,
+    record { ratio = r; column = basic t.state p; entry = Swap q p end },
+    pivoting,
+    subst (λ c. Leaves inst t.state q c t.values (column inst t q) (record { ratio = r; column = basic t.state p; entry = Swap q p end })) same_way decides,
+    refl,
+  )
+  comes_next leave.Free decides = (pivoting, subst (λ c. IsFree inst t.state q c t.values (column inst t q)) same_way decides)
+
+  pub overflows_next : (w : ℕ) (here : Place) → HasUnfitRatio w inst t q here → OverflowsNext w inst t here
+  unfolding way
+  overflows_next w here unfit =
+      by_first (one_more (Below (limit_at inst t.state q way t.values (column inst t q)) (row_count inst))
+      (first_below (row_count inst) (limit_at inst t.state q way t.values (column inst t q))) (own_limit (bounds inst t.state.phase q) q))
+    where
+      ratios_unfit : first_unfit w (ratio_listing inst t.number t.state q way t.values (column inst t q)) ≡ Some here
+      ratios_unfit = subst (λ c. first_unfit w (ratio_listing inst t.number t.state q c t.values (column inst t q)) ≡ Some here) same_way unfit
+
+      apart : None ≡ Some here → ⊥
+      apart e = cc e
+
+      by_first : FirstOrNone (IsLimit inst t.state q way t.values (column inst t q)) → OverflowsNext w inst t here
+      by_first (inl (limit, first)) =
+          let moves = move_listing inst t.number t.state (cell t) t.values (column inst t q) (reduced inst t.state (prices inst t)) q way limit.ratio limit.entry in (
+            ratio_listing inst t.number t.state q way t.values (column inst t q) ++ moves,
+            inl (
+              cell t,
+              record {
+                prices = prices inst t;
+                values = t.values;
+                column = column inst t q;
+                entering = q;
+                limit = limit;
+                pivoting = pivoting;
+                leaves = record { is_limit = first.is; first = first.first };
+              },
+              stands.table.columns,
+              refl,
+            ),
+            unfit-append w (ratio_listing inst t.number t.state q way t.values (column inst t q)) moves here ratios_unfit,
+          )
+      by_first (inr none) = absurd (apart (sym (free_fits w inst t.number t.state q way t.values (column inst t q) none) ∙ ratios_unfit))

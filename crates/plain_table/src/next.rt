@@ -1,0 +1,220 @@
+//! What comes next at a table.
+ghost use Rattle.std.specs.Prelude.{◌≡◌, ◌<◌, ◌↔◌, length, Some, IfErr, IfOk, IsTrue, MatchOption};
+ghost use Rattle.exact_frac.specs.Count.{unfit_after};
+ghost use Rattle.lp_run.specs.Instance.{column_count, row_count};
+ghost use Rattle.lp_run.specs.Step.{ArtificialsZero, Eligible, Enters, NoneEligible, direction};
+ghost use Rattle.bland_ratio.specs.Leave.{Decides, IsBasisOf, direction_where, ratio_place};
+ghost use Rattle.plain_table.specs.Next.{ComesNext, IsTableOf, OverflowsNext, column as column_of, prices as prices_of};
+ghost use Rattle.plain_table.specs.Inner.Next.{DecidesAt, HasUnfitRatio, StandsOff, first_ratio};
+
+use crate::rows::read_column;
+use crate::table::Table;
+use bland_ratio::{Leave, RatioUnfit, improves, leaving};
+use exact_frac::{Arith, Frac};
+use instance_model::{Instance, State};
+use lp_model::{Entry, Kind, Phase, Place};
+use lp_run::ColumnKind;
+
+/// The end of a run.
+#[derive(Clone, Copy, Debug, PartialEq, Eq)]
+pub enum End {
+    /// An optimum: phase two, and no column is eligible.
+    Optimal,
+    /// No feasible point: phase one, no column is eligible, and some artificial is not 0.
+    Infeasible,
+    /// The step of this column, the least eligible one, has no limit.
+    Unbounded(u32),
+}
+
+/// What comes next at a state of a run.
+#[derive(Clone, Copy, Debug, PartialEq, Eq)]
+pub enum Next {
+    /// An entry of the log.
+    Entry(Entry),
+    /// The end of the run.
+    End(End),
+}
+
+/// The place of a distance or a ratio of the step of column `q`.
+pub fn ratio_place(number: u64, q: u32, refusal: RatioUnfit) -> Place
+    ensures { result ≡ ratio_place number q refusal }
+{
+    match refusal.position {
+        Some(position) => Place {
+            number,
+            kind: Kind::Ratio,
+            row: Some(position),
+            column: None,
+        },
+        None => Place {
+            number,
+            kind: Kind::Ratio,
+            row: None,
+            column: Some(q),
+        },
+    }
+}
+
+/// Whether a column with that reduced cost falls as it enters; else it rises.
+#[tactic(auto, using(exact_frac::specs::Constants::constants))]
+pub fn falls(cost: Frac) -> bool
+    ensures { direction cost ≡ direction_where result }
+{
+    !cost.cmp(&Frac::ZERO).is_lt()
+}
+
+// The column that enters: its number and its reduced cost, under the number of the state.
+#[derive(Clone, Copy, Debug)]
+struct Entering {
+    number: u64,
+    column: u32,
+    cost: Frac,
+}
+
+impl Entering {
+    // The limit that decides its step; `alpha` is the column in terms of the basis.
+    fn leave<A: Arith>(
+        &self,
+        inst: &Instance,
+        state: &State,
+        values: &[Frac],
+        alpha: &[Frac],
+        arith: &mut A,
+    ) -> Result<Leave, Place>
+        requires state { IsBasisOf inst.now state.now }
+        requires values { length values.now ≡ row_count inst.now }
+        requires column { self.now.column < column_count inst.now }
+        requires alpha { length alpha.now ≡ row_count inst.now }
+        ensures decides { IfOk result (Decides inst.now state.now self.now.column (direction self.now.cost) values.now alpha.now) }
+        ensures overflow { IfErr result (λ here. first_ratio (A.width arith.old) inst.now self.now.number state.now self.now.column self.now.cost values.now alpha.now ≡ Some here) }
+        ensures width { A.width arith.new ≡ A.width arith.old }
+        ensures unfit { A.unfit_count arith.new ≡ unfit_after (A.unfit_count arith.old) result }
+    {
+        let down = falls(self.cost);
+        match leaving(
+            inst,
+            state,
+            values,
+            self.column as usize,
+            down,
+            alpha,
+            arith,
+        ) {
+            Ok(leave) => Ok(leave),
+            Err(refusal) => Err(ratio_place(self.number, self.column, refusal)),
+        }
+    }
+}
+
+impl Table {
+    /// What comes next at the table's state, by Bland's rule: the least eligible column enters, and the least column of
+    /// the least ratio leaves. The table stays.
+    ///
+    /// # Errors
+    ///
+    /// The place of the first distance or ratio of the step that does not fit the width, where there is one.
+    pub fn next<A: Arith>(&mut self, inst: &Instance, arith: &mut A) -> Result<Next, Place>
+        requires { IsTableOf inst.now self.old }
+        ensures next { IfOk result (ComesNext inst.now self.old) }
+        ensures overflow { IfErr result (OverflowsNext (A.width arith.old) inst.now self.old) }
+        ensures kept { self.new ≡ self.old }
+        ensures width { A.width arith.new ≡ A.width arith.old }
+        ensures unfit { A.unfit_count arith.new ≡ unfit_after (A.unfit_count arith.old) result }
+    {
+        let Some(q) = self.entering(inst) else {
+            return Ok(self.rest(inst));
+        };
+        Ok(match self.leave(inst, q, arith)? {
+            Leave::Flip(_) => Next::Entry(Entry::Flip(q)),
+            Leave::Out(position, end, _) => Next::Entry(Entry::Swap(q, position, end)),
+            Leave::Free => Next::End(End::Unbounded(q)),
+        })
+    }
+
+    // Whether a column may enter.
+    fn may_enter(&self, inst: &Instance, j: usize) -> bool
+        requires table { IsTableOf inst.now self.now }
+        requires column { j < column_count inst.now }
+        ensures { IsTrue result ↔ Eligible inst.now self.now.state (prices_of inst.now self.now) j }
+    {
+        if !improves(self.state().status(j), self.cost(j)) {
+            return false;
+        }
+        !inst.bounds(self.state().phase(), j).is_fixed()
+    }
+
+    // The least eligible column.
+    fn entering(&self, inst: &Instance) -> Option<u32>
+        requires { IsTableOf inst.now self.now }
+        ensures { MatchOption result (NoneEligible inst.now self.now.state (prices_of inst.now self.now)) (Enters inst.now self.now.state (prices_of inst.now self.now)) }
+    {
+        for j in 0..inst.columns() {
+            if self.may_enter(inst, j) {
+                return Some(j as u32);
+            }
+        }
+        None
+    }
+
+    // The limit that decides the step of a column.
+    fn leave<A: Arith>(&mut self, inst: &Instance, q: u32, arith: &mut A) -> Result<Leave, Place>
+        requires table { IsTableOf inst.now self.old }
+        requires column { q < column_count inst.now }
+        ensures decides { IfOk result (DecidesAt inst.now self.old q) }
+        ensures overflow { IfErr result (HasUnfitRatio (A.width arith.old) inst.now self.old q) }
+        ensures kept { self.new ≡ self.old }
+        ensures width { A.width arith.new ≡ A.width arith.old }
+        ensures unfit { A.unfit_count arith.new ≡ unfit_after (A.unfit_count arith.old) result }
+    {
+        read_column(&self.rows, q as usize, &mut self.alpha);
+        let step = Entering {
+            number: self.number,
+            column: q,
+            cost: self.costs[q as usize],
+        };
+        step.leave(inst, &self.state, &self.values, &self.alpha, arith)
+    }
+
+    // Whether each artificial is 0.
+    fn artificials_are_zero(&self, inst: &Instance) -> bool
+        requires { IsTableOf inst.now self.now }
+        ensures { IsTrue result ↔ ArtificialsZero inst.now self.now.state self.now.values }
+    {
+        for p in 0..inst.rows() {
+            if self.is_needed(inst, p) {
+                return false;
+            }
+        }
+        true
+    }
+
+    // Whether an artificial stands in a position at another value than 0.
+    fn is_needed(&self, inst: &Instance, p: usize) -> bool
+        requires table { IsTableOf inst.now self.now }
+        requires position { p < row_count inst.now }
+        ensures { IsTrue result ↔ StandsOff inst.now self.now.state self.now.values p }
+    {
+        match inst.kind(self.state().basic(p) as usize) {
+            ColumnKind::Artificial(_) => !self.value(p).is_zero(),
+            _ => false,
+        }
+    }
+
+    // What comes next where no column is eligible.
+    fn rest(&self, inst: &Instance) -> Next
+        requires table { IsTableOf inst.now self.now }
+        requires none { NoneEligible inst.now self.now.state (prices_of inst.now self.now) }
+        ensures { ComesNext inst.now self.now result }
+    {
+        match self.state().phase() {
+            Phase::Two => Next::End(End::Optimal),
+            Phase::One => {
+                if self.artificials_are_zero(inst) {
+                    Next::Entry(Entry::Turn)
+                } else {
+                    Next::End(End::Infeasible)
+                }
+            }
+        }
+    }
+}

@@ -1,0 +1,4 @@
+mod Splitting
+mod Values
+mod Plain
+mod SwapLines

@@ -1,5 +1,0 @@
-pub mod Items
-pub mod Products
-pub mod Runs
-pub mod Points
-pub mod Starts

@@ -1,0 +1,24 @@
+-- A product of 0 changes nothing, and one of two other numbers is worked.
+use Rattle.std.proofs.Common.{inl, inr}
+use Rattle.sparse_steps.proofs.Steps.{apart, refused, skipped_sum, unfit_sum, settled_sum}
+use Rattle.sparse_steps.proofs.more_product.Goals as goal
+use Rattle.sparse_steps.proofs.more_product.Goals.{then-is_zero-via-then-is_zero, then-is_zero-via-else-is_zero+then-is_zero-2}
+
+pub returns-then-is_zero-clause-settled : goal.returns-then-is_zero-clause-settled
+returns-then-is_zero-clause-settled g c =
+    elim c.then-is_zero.branch [
+      | then-is_zero-via-then-is_zero w ↦ skipped_sum _ _ _ _ (inl (c.is_zero.ensures.0 w.if-is_zero.true))
+      | then-is_zero-via-else-is_zero+then-is_zero-2 w ↦ skipped_sum _ _ _ _ (inr (w.is_zero-else-is_zero.ensures.0 w.if-is_zero-2.true))
+    ]
+
+pub returns-clause-settled : goal.returns-clause-settled
+returns-clause-settled g c =
+    let left = apart _ _ c.is_zero.ensures c.if-is_zero.false in
+    let right = apart _ _ c.is_zero-else-is_zero.ensures c.if-is_zero-2.false in
+    settled_sum _ _ c.args.x c.args.a c.args.b c.in_ok-product.product c.add.result c.mul.ensures.same_width left right c.in_ok-product.ensures.answer c.add.ensures.answer
+
+pub returns-in_err-product-clause-settled : goal.returns-in_err-product-clause-settled
+returns-in_err-product-clause-settled g c =
+    let left = apart _ _ c.is_zero.ensures c.if-is_zero.false in
+    let right = apart _ _ c.is_zero-else-is_zero.ensures c.if-is_zero-2.false in
+    refused _ _ _ (λ x. x) (unfit_sum _ c.args.x c.args.a c.args.b left right c.in_err-product.ensures.answer) c.from_residual.ensures.1
