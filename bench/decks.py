@@ -2,8 +2,9 @@
 """Makes a deck from a seed: decks.py KIND ROWS COLUMNS SEED
 
 KIND is `dense` (every entry from 1 to 9), `sparse` (four entries a column) or `chain` (a column a row): decks of less-than rows, with costs below 0,
-right sides from 1 up, and an entry above 0 in each column, so that the deck has an optimum. Or it is `whole`: rows of all kinds, a cost and nine
-entries a column with decimals, two pairs a card, ranges and bounds of all kinds.
+right sides from 1 up, and an entry above 0 in each column, so that the deck has an optimum. Or it is `transport`: from half as many sources as there are
+rows to as many sinks, which begins in phase one (the seed and the columns do not matter). Or it is `whole`: rows of all kinds, a cost and nine entries a
+column with decimals, two pairs a card, ranges and bounds of all kinds.
 """
 import random
 import sys
@@ -56,11 +57,23 @@ def whole_deck(rows, columns, chance):
     print("\n".join(lines))
 
 
+def transport_deck(count):
+    ends = range(1, count + 1)
+    lines = ["NAME          MAKE", "ROWS", " N  COST", *[f" L  S{i}" for i in ends], *[f" G  D{j}" for j in ends], "COLUMNS"]
+    for i in ends:
+        for j in ends:
+            lines += [card(f"X{i}_{j}", row, value) for row, value in (("COST", (7 * i + 13 * j + 5 * i * j) % 97 + 1), (f"S{i}", 1), (f"D{j}", 1))]
+    lines += ["RHS", *[card("S", f"S{i}", 20 + i % 5) for i in ends], *[card("S", f"D{j}", 15 + j % 4) for j in ends], "ENDATA"]
+    print("\n".join(lines))
+
+
 def main():
     kind, rows, columns, seed = sys.argv[1], int(sys.argv[2]), int(sys.argv[3]), int(sys.argv[4])
     chance = random.Random(seed)
     if kind == "whole":
         return whole_deck(rows, columns, chance)
+    if kind == "transport":
+        return transport_deck(rows // 2)
     lines = ["NAME          BENCH", "ROWS", " N  COST"]
     lines += [f" L  R{row + 1}" for row in range(rows)]
     lines.append("COLUMNS")
