@@ -4,6 +4,7 @@ import shutil
 import subprocess
 import sys
 import tempfile
+import zlib
 
 from second_checker import Broken, Flaw, check, parse
 from second_reader import Fault, read
@@ -11,7 +12,8 @@ from second_solver import Overflow, Spent, report_text, solve
 
 HERE = os.path.dirname(os.path.dirname(os.path.abspath(__file__)))
 LP = os.path.join(HERE, "crates", "lp_main", "out", "lp_main")
-WORDS = ["solve", "--workers", "0"]
+# What is asked of the program, in turn: both versions of the report, with the log and without.
+WORDS = [["solve", "--workers", "0", *log, *report] for log in ([], ["--log"]) for report in (["--report", "1"], [])]
 GLPSOL = shutil.which("glpsol")
 
 
@@ -69,6 +71,11 @@ def is_near(found, value):
     return abs(found - float(value)) <= 1e-8 * max(1.0, abs(float(value)))
 
 
+def words_for(text):
+    """The words for a text, which are the same each time."""
+    return WORDS[zlib.crc32(text) % len(WORDS)]
+
+
 def wanted(text, by_solver=True):
     """What the program must answer: a kind, the status, the line on standard error, the bytes written (none: a report to be judged), and a solved deck.
 
@@ -88,7 +95,7 @@ def wanted(text, by_solver=True):
         return f"overflow of {place.kind}", 6, str(place), b"", None
     except Spent as spent:
         return "budget", 7, f"lp: budget spent after {spent} moves", b"", None
-    return solved.outcome.lower(), 0, "", report_text(deck, solved, "--log" in WORDS), deck
+    return solved.outcome.lower(), 0, "", report_text(deck, solved, "--log" in words_for(text), 1 if "--report" in words_for(text) else 2), deck
 
 
 def fault_of_report(deck, written):
@@ -111,7 +118,7 @@ def judge(text, by_solver=True, seconds=120):
     """The kind of answer that a text must have, and what is wrong with the program's, if anything is."""
     kind, status, line, bytes_written, deck = wanted(text, by_solver)
     try:
-        done = subprocess.run([LP, *WORDS], input=text, capture_output=True, timeout=seconds)
+        done = subprocess.run([LP, *words_for(text)], input=text, capture_output=True, timeout=seconds)
     except subprocess.TimeoutExpired:
         return kind, f"it does not end within {seconds} seconds"
     said = done.stderr.decode(errors="replace").removesuffix("\n")

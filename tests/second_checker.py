@@ -11,7 +11,7 @@ from fractions import Fraction
 
 from second_reader import Fault, read
 
-LONGEST, BYTES, WIDTH = 255, 4_194_304, 127
+LONGEST, BYTES, WIDTH = 255, 33_554_432, 127
 NUMBER = re.compile(rb"-?[1-9]\d*(/[1-9]\d*)?|0")
 COUNT = re.compile(rb"0|[1-9]\d*")
 OUTCOMES = (b"OPTIMAL", b"INFEASIBLE", b"UNBOUNDED")
@@ -37,6 +37,7 @@ class Report:
     prices: list = field(default_factory=list)
     farkas: list = field(default_factory=list)
     ray: list = field(default_factory=list)
+    basis: tuple | None = None
     log: list | None = None
 
 
@@ -131,10 +132,29 @@ def entry(lines, deck):
     return (word.decode(), *numbers, *[part.decode() for part in rest[2:]])
 
 
+def basis(lines, deck):
+    """The basic columns by position, and the columns at their upper ends."""
+    most = len(deck.columns) + 2 * len(deck.rows)
+
+    def index(word, least):
+        column = lines.single(word, count)
+        lines.must(least <= column < most, "name")
+        return column
+
+    lines.must(lines.single(b"BASIS", count) == len(deck.rows), "number")
+    basic = [index(b"BASIC", 0) for _ in deck.rows]
+    at_upper = lines.single(b"UPPER", count)
+    lines.must(at_upper <= most, "number")
+    upper = []
+    for _ in range(at_upper):
+        upper.append(index(b"AT", upper[-1] + 1 if upper else 0))
+    return basic, upper
+
+
 def parse(deck, text):
     """The report of a text, which is one of this deck; the first flaw is raised."""
     lines = Lines(text)
-    lines.fixed(b"LPCERT 1")
+    version = lines.fixed(b"LPCERT 1", b"LPCERT 2")
     rest = lines.words(b"DECK", 1)
     lines.must(rest == [deck.name], "name")
     report = Report(lines.fixed(*OUTCOMES).decode())
@@ -148,6 +168,8 @@ def parse(deck, text):
         report.farkas = [lines.valued(b"FARKAS", row.name) for row in deck.rows]
     else:
         report.ray = [lines.valued(b"RAY", column.name) for column in deck.columns]
+    if version == b"LPCERT 2":
+        report.basis = basis(lines, deck)
     line = lines.next()
     if line != b"END":
         lines.at, lines.used = lines.at - 1, lines.used - len(line) - 1
@@ -260,6 +282,20 @@ class Walk:
         total, _ = self.sum(Fraction(0), [(column.cost, along) for column, along in zip(deck.columns, report.ray)])
         self.end("RAYCOST", deck.sense * total < 0)
 
+    def basis(self, report):
+        """The rules of a report that tells a basis; their sums were all worked before."""
+        deck, (basic, upper) = self.deck, report.basis
+        self.end("BASIS", len(set(basic)) == len(basic) and not set(basic) & set(upper))
+        if report.outcome != "INFEASIBLE":
+            for j, (column, value) in enumerate(zip(deck.columns, report.values)):
+                rest = column.upper if j in upper else Fraction(0) if column.lower is None else column.lower
+                self.end(f"REST {column.name.decode()}", j in basic or value == rest)
+        if report.outcome != "UNBOUNDED":
+            prices = report.prices or report.farkas
+            for j, column in enumerate(deck.columns):
+                priced = sum(prices[i] * number for i, number in column.entries.items())
+                self.end(f"BASIC {column.name.decode()}", j not in basic or priced == (column.cost if report.outcome == "OPTIMAL" else 0))
+
 
 def is_within(lower, value, upper):
     return (lower is None or lower <= value) and (upper is None or value <= upper)
@@ -273,7 +309,10 @@ def logical_ends(row):
 
 def check(deck, report, width=WIDTH):
     """Raises the first rule that is broken, or that has a sum which does not fit; without a width all sums fit."""
-    getattr(Walk(deck, width), report.outcome.lower())(report)
+    walk = Walk(deck, width)
+    getattr(walk, report.outcome.lower())(report)
+    if report.basis:
+        walk.basis(report)
 
 
 def main():

@@ -44,6 +44,8 @@ class Solved:
     prices: list
     ray: list
     log: list
+    basic: list
+    upper: list
 
 
 class Run:
@@ -217,7 +219,11 @@ class Run:
                 total, had = self.put(total + self.put(column.cost * value, "total", None, j), "total", None, j), True
         if not had:
             self.put(total, "total", None, None)
-        return Solved("OPTIMAL", total, values, [self.deck.sense * price for price in self.prices()], [], self.log)
+        return self.solved("OPTIMAL", total, values, [self.deck.sense * price for price in self.prices()], [])
+
+    def solved(self, outcome, objective, values, prices, ray):
+        upper = [j for j, status in enumerate(self.status) if status == "UPPER"]
+        return Solved(outcome, objective, values, prices, ray, self.log, self.basis, upper)
 
     def ray(self, q):
         ray, direction = [ZERO] * self.n, self.direction(q)
@@ -237,7 +243,7 @@ def solve(deck, width=127, budget=1_000_000):
         if q is not None:
             least = run.leaving(q)
             if least is None:
-                return Solved("UNBOUNDED", None, run.point(), [], run.ray(q), run.log)
+                return run.solved("UNBOUNDED", None, run.point(), [], run.ray(q))
             if moves == budget:
                 raise Spent(moves)
             run.move(q, least[0], *least[2:])
@@ -247,13 +253,13 @@ def solve(deck, width=127, budget=1_000_000):
         elif all(value == 0 for value, column in zip(run.value, run.basis) if column >= run.n + run.m):
             run.turn()
         else:
-            return Solved("INFEASIBLE", None, [], run.prices(), [], run.log)
+            return run.solved("INFEASIBLE", None, [], run.prices(), [])
         run.number += 1
 
 
-def report_text(deck, solved, with_log):
+def report_text(deck, solved, with_log, version=1):
     """The report of an end, as docs/FORMATS.md lays it out."""
-    lines = [b"LPCERT 1", b"DECK " + deck.name, solved.outcome.encode()]
+    lines = [b"LPCERT %d" % version, b"DECK " + deck.name, solved.outcome.encode()]
 
     def add(word, values, named):
         lines.extend(b" ".join((word, fraction_text(value).encode(), it.name)) for value, it in zip(values, named))
@@ -263,6 +269,11 @@ def report_text(deck, solved, with_log):
     add(b"VALUE", solved.values, deck.columns)
     add(b"FARKAS" if solved.outcome == "INFEASIBLE" else b"PRICE", solved.prices, deck.rows)
     add(b"RAY", solved.ray, deck.columns)
+    if version == 2:
+        lines.append(b"BASIS %d" % len(solved.basic))
+        lines.extend(b"BASIC %d" % column for column in solved.basic)
+        lines.append(b"UPPER %d" % len(solved.upper))
+        lines.extend(b"AT %d" % column for column in solved.upper)
     if with_log:
         lines.append(b"LOG %d" % len(solved.log))
         lines.extend(entry.encode() for entry in solved.log)
@@ -270,7 +281,7 @@ def report_text(deck, solved, with_log):
 
 
 def main(words):
-    options = {word: int(words[at + 1]) for at, word in enumerate(words) if word in ("--budget", "--width")}
+    options = {word: int(words[at + 1]) for at, word in enumerate(words) if word in ("--budget", "--width", "--report")}
     try:
         deck = read(sys.stdin.buffer.read())
         deck.sense = -1 if "--greatest" in words else 1
@@ -284,7 +295,7 @@ def main(words):
     except Spent as spent:
         print(f"lp: budget spent after {spent} moves", file=sys.stderr)
         return 7
-    sys.stdout.buffer.write(report_text(deck, solved, "--log" in words))
+    sys.stdout.buffer.write(report_text(deck, solved, "--log" in words, options.get("--report", 2)))
     return 0
 
 

@@ -12,7 +12,7 @@ use Rattle.rational.proofs.Ring.{𝟘}
 use Rattle.rational.proofs.Linear.{linear, ◌≺◌, ◌≐◌, ◌⟹◌, never}
 use Rattle.rational.specs.Sum.{at}
 use Rattle.lp_run.specs.Instance.{IsWellFormed, Instance, bounds, column_count, row_count}
-use Rattle.lp_run.specs.Ends.{Gives, HasOutcome, objective_at, point, prices_in, ray}
+use Rattle.lp_run.specs.Ends.{Yields, HasOutcome, objective_at, point, prices_in, ray}
 use Rattle.lp_model.specs.Outcome.{Outcome, infeasible, optimal, unbounded}
 use Rattle.lp_run.specs.Run.{IsWholeRun, Leads}
 use Rattle.lp_run.specs.Solution.{Prices, reduced}
@@ -156,7 +156,7 @@ module _ (inst : Instance) (bounded : IsBounded inst) where
       by_run (inr (log, t, leads, each)) = absurd (omega (arith, each, short inst bounded s h log t leads))
 
 -- what a final state gives
-final_gives : (inst : Instance) (s : State) → IsFinal inst s → (o : Outcome) × Gives inst s o
+final_gives : (inst : Instance) (s : State) → IsFinal inst s → (o : Outcome) × Yields inst s o
 final_gives inst s (inl (y, β, ends)) =
     (optimal (point inst s β) (prices_in inst.sense y) (objective_at inst (point inst s β)), (y, β, ends, refl, refl, refl))
 final_gives inst s (inr (inl (y, β, ends))) = (infeasible y, (β, ends))

@@ -22,7 +22,7 @@ use Rattle.rational.proofs.SumLaws.{at_or_other, sum-cong, sum-none, sum-change,
 use Rattle.lp_model.specs.Certificate.{Farkas, Proves, Ray, column_greatest, greatest, logical_greatest, reduced_cost, weighted_column, weighted_right}
 use Rattle.lp_model.specs.Deck.{Deck, Interval, IsDeck, IsFeasible, Within, activity, activity_interval, between, column, cost_at, entry, in_sense, logical_bounds, nonnegative, row}
 use Rattle.lp_run.specs.Instance.{Instance, bounds, kind_bounds, coefficient, column_count, cost, kind_cost, instance_of, row_count, structural_count}
-use Rattle.lp_run.specs.Ends.{by_position, Gives, HasOutcome, point, prices_in, ray}
+use Rattle.lp_run.specs.Ends.{by_position, Yields, HasOutcome, point, prices_in, ray}
 use Rattle.lp_model.specs.Outcome.{Outcome, infeasible, optimal, unbounded}
 use Rattle.lp_run.specs.Solution.{reduced}
 use Rattle.lp_run.specs.State.{State, basic, rest, status_of, resting_value}
@@ -508,7 +508,7 @@ module _ (d : Deck) (deck : IsDeck d) where
 
   -- ── the outcome ──
 
-  gives_proves : (s : State) → Holds inst s → (o : Outcome) → Gives inst s o → OutcomeProves d o
+  gives_proves : (s : State) → Holds inst s → (o : Outcome) → Yields inst s o → OutcomeProves d o
   gives_proves s h (optimal x y v) (z, β, ends, at_prices, at_point, at_value) =
       let same : β ≡ h.β = same_values inst s h β ends.1.values in
       let here : EndsOptimal inst s z h.β = subst (EndsOptimal inst s z) same ends in

@@ -4,7 +4,7 @@ use Rattle.lp_model.specs.declared.Entry.{Entry}
 use Rattle.lp_model.specs.declared.Phase.TheVariants.{One, Two}
 use Rattle.rational.specs.Rational.{ℚ}
 use Rattle.lp_run.specs.Instance.{Instance}
-use Rattle.lp_run.specs.Ends.{Gives, HasOutcome, objective_at, point, prices_in, ray}
+use Rattle.lp_run.specs.Ends.{Yields, HasOutcome, objective_at, point, prices_in, ray}
 use Rattle.lp_model.specs.Outcome.{Outcome, infeasible, optimal, unbounded}
 use Rattle.lp_run.specs.Run.{Leads}
 use Rattle.lp_run.specs.Solution.{Regular}
@@ -43,7 +43,7 @@ module _ (inst : Instance) (s : State) (regular : Regular inst s) where
       apart e = cc e
 
   -- a final state gives one outcome
-  pub one_given : (o o' : Outcome) → Gives inst s o → Gives inst s o' → o ≡ o'
+  pub one_given : (o o' : Outcome) → Yields inst s o → Yields inst s o' → o ≡ o'
   one_given (optimal x y v) (optimal x' y' v') (z, β, ends, at_prices, at_point, at_value) (z', β', ends', at_prices', at_point', at_value') =
       let points : x ≡ x' = at_point ∙ ap (point inst s) (one_values inst s regular β β' ends.1.values ends'.1.values) ∙ sym at_point' in
       let prices : y ≡ y' = at_prices ∙ ap (prices_in inst.sense) (one_prices inst s regular z z' ends.1.prices ends'.1.prices) ∙ sym at_prices' in
@@ -62,7 +62,7 @@ module _ (inst : Instance) (s : State) (regular : Regular inst s) where
       ap₂ unbounded (at_point ∙ sym same.0) (at_ray ∙ sym same.1)
 
 -- the end that an outcome comes from
-gives_final : (inst : Instance) (s : State) (o : Outcome) → Gives inst s o → IsFinal inst s
+pub gives_final : (inst : Instance) (s : State) (o : Outcome) → Yields inst s o → IsFinal inst s
 gives_final inst s (optimal x y v) (z, β, ends, at_prices, at_point, at_value) = inl (z, β, ends)
 gives_final inst s (infeasible y) (β, ends) = inr (inl (y, β, ends))
 gives_final inst s (unbounded x r) (y, β, α, q, ends, at_point, at_ray) = inr (inr (y, β, α, q, ends))
@@ -71,4 +71,4 @@ pub one_outcome : (inst : Instance) → HasTable inst (start_of inst) → (log l
     → HasOutcome inst log' o' → o ≡ o'
 one_outcome inst h log log' o o' (s, run, gives) (s', run', gives') =
     let same = one_whole inst (start_of inst) h log log' s s' run (gives_final inst s o gives) run' (gives_final inst s' o' gives') in
-    one_given inst s (regular_from_table inst s same.2) o o' gives (subst (λ a. Gives inst a o') (sym same.1) gives')
+    one_given inst s (regular_from_table inst s same.2) o o' gives (subst (λ a. Yields inst a o') (sym same.1) gives')

@@ -76,7 +76,8 @@ module _ (inst : Instance) (well_formed : IsWellFormed inst) (s : State) (ticket
             none j (omega arith) below true ((eligible.0, not_basic (status_at ticket j) (reduced inst s y j) eligible.1), unfit)
 
     -- a choice that is not unfit has the entering column, or none may enter
-    pub choice_enters : (choice : Choice) → IsChoiceOf w inst ticket choice → choice.unfit ≡ false → (y : List ℚ) × Prices inst s y × MatchOption choice.stopper (NoneEligible inst s y) (Enters inst s y)
+    pub choice_enters : (choice : Choice) → IsChoiceOf w inst ticket choice → choice.unfit ≡ false → (y : List ℚ) × Prices inst s y
+        × MatchOption choice.stopper (NoneEligible inst s y) (Enters inst s y)
     choice_enters choice is fit =
         let (y, prices, costs) = exact_costs in
         (y, prices, by y costs choice.stopper (subst (λ unfit. IsFirstStopper w inst ticket 0 (column_count inst) (option_map (λ j. (j, unfit)) choice.stopper)) fit is.stopper))

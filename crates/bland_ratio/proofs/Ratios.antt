@@ -160,7 +160,8 @@ module _ (inst : Instance) (s : State) (q : ℕ) (t : ℚ) (β α : List ℚ) (w
   -- the least of all limits decides
   pub decided : (own best : Option Found) (a : Option Limit) → settle w (own_work (bounds inst s.phase q) q) ≡ Some own → IsLeast (LimitBefore (row_count inst)) a
       → IsEarlier a (option_map (limit_of q) own) (option_map (limit_of q) best) → Decides inst s q t β α (leave_of best)
-  decided own best a e least earlier = by best (least_more (LimitBefore (row_count inst)) (IsLimit inst s q t β α) (option_map (limit_of q) own) more (λ l h. inl h) (λ l h. inr (answers_own own e ∙ h)) a _ least earlier)
+  decided own best a e least earlier = by best (least_more (LimitBefore (row_count inst)) (IsLimit inst s q t β α) (option_map (limit_of q) own) more
+      (λ l h. inl h) (λ l h. inr (answers_own own e ∙ h)) a _ least earlier)
     where
       more : (l : Limit) → IsLimit inst s q t β α l → LimitBefore (row_count inst) l ⊎ (option_map (limit_of q) own ≡ Some l)
       more l (inl h) = inl h

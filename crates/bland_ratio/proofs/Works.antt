@@ -30,20 +30,6 @@ rate_down down a e = ring_ℚ 1 (λ a. a ≐ (⊝ (⊝ 𝟙)) ⊗ a) tt a ∙ ap
 pub rate_up : (down : Bool) (a : ℚ) → down ≡ false → neg_ℚ a ≡ neg_ℚ (direction_where down) *ℚ a
 rate_up down a e = ring_ℚ 1 (λ a. ⊝ a ≐ (⊝ 𝟙) ⊗ a) tt a ∙ ap (λ b. neg_ℚ (direction_where b) *ℚ a) (sym e)
 
-abs-zero : abs_ℚ zero_ℚ ≡ zero_ℚ
-unfolding abs_ℚ zero_ℚ
-abs-zero = refl
-
-module _ (a z : ℚ) (zero : z ≡ zero_ℚ) where
-  pub size_below : Less ≡ cmp_ℚ a z → neg_ℚ a ≡ abs_ℚ a
-  size_below e = sym (abs_ℚ-below a (subst (λ z. a <ℚ z) zero (cmp_less a z (sym e))))
-
-  pub size_equal : Equal ≡ cmp_ℚ a z → a ≡ abs_ℚ a
-  size_equal e = let none : a ≡ zero_ℚ = cmp_equal a z (sym e) ∙ zero in none ∙ sym abs-zero ∙ ap abs_ℚ (sym none)
-
-  pub size_above : Greater ≡ cmp_ℚ a z → a ≡ abs_ℚ a
-  size_above e = sym (abs_ℚ-above a (subst (λ z. z <ℚ a) zero (cmp_greater a z (sym e))))
-
 pub size_apart : (a : ℚ) → a ≢ zero_ℚ → abs_ℚ a ≢ zero_ℚ
 size_apart a other none =
     by_cmp (λ o. ⊥) a zero_ℚ

@@ -1,8 +1,7 @@
 //! The limit of one position, and that of the entering column itself.
 ghost use Rattle.std.specs.Prelude.{◌≡◌, ◌≢◌, ◌+◌, ◌<◌, ◌≤◌, length};
-ghost use Rattle.rational.specs.Rational.{zero_ℚ, ◌*ℚ◌, abs_ℚ, cmp_ℚ, neg_ℚ};
+ghost use Rattle.rational.specs.Rational.{zero_ℚ, ◌*ℚ◌, cmp_ℚ, neg_ℚ};
 ghost use Rattle.exact_frac.specs.Exact.{Exact};
-ghost use Rattle.exact_frac.specs.Count.{unfit_after};
 ghost use Rattle.exact_frac.specs.Count.{unfit_after};
 ghost use Rattle.exact_frac.specs.Settles.{Settles};
 ghost use Rattle.lp_run.specs.Instance.{row_count};
@@ -20,18 +19,6 @@ fn rate(alpha: Frac, down: bool) -> Frac
     ensures { result ≡ neg_ℚ (direction_where down) *ℚ alpha }
 {
     if down { alpha } else { alpha.negated() }
-}
-
-// The size of a fraction.
-#[tactic(auto, using(exact_frac::specs::Constants::constants))]
-fn size(a: Frac) -> Frac
-    ensures { result ≡ abs_ℚ a }
-{
-    match a.cmp(&Frac::ZERO) {
-        Ordering::Less => a.negated(),
-        Ordering::Equal => a,
-        Ordering::Greater => a,
-    }
 }
 
 // The end towards which a value moves at the rate, where it is finite.
@@ -76,7 +63,7 @@ fn limit_to<A: Arith>(
 {
     let Some(ahead) = ahead else { return Ok(None) };
     match distance(value, ahead.0, ahead.1, arith) {
-        Ok(distance) => match arith.div(distance, size(alpha)) {
+        Ok(distance) => match arith.div(distance, alpha.abs()) {
             Ok(ratio) => Ok(Some(Limit {
                 ratio,
                 column,

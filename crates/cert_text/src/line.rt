@@ -21,8 +21,8 @@ pub enum Line<'a> {
     Objective(Frac),
     /// A word, and a value with the name of its row or column.
     Value(&'a [u8], Frac, &'a [u8]),
-    /// How many entries the log has.
-    Log(usize),
+    /// A word, and a number.
+    Number(&'a [u8], usize),
     /// An entry of the log.
     Entry(Entry),
 }
@@ -57,9 +57,9 @@ impl Line<'_> {
                 put_fraction(buffer, *value)?;
                 put_text(buffer, name)?;
             }
-            Line::Log(count) => {
-                buffer.extend_from_slice(b"LOG")?;
-                put_number(buffer, *count)?;
+            Line::Number(word, number) => {
+                buffer.extend_from_slice(word)?;
+                put_number(buffer, *number)?;
             }
             Line::Entry(entry) => put_entry(buffer, *entry)?,
         }

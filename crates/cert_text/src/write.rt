@@ -2,22 +2,21 @@
 ghost use Rattle.std.specs.Prelude.{◌≡◌, ◌<◌, ◌≤◌, [], ◌∷◌, length, get_or, map, OnOk, IsErrOf};
 ghost use Rattle.io_ends.specs.Bytes.{Appends, AppendsPrefix};
 ghost use Rattle.io_ends.specs.Count.{Rose};
-ghost use Rattle.lp_text.specs.Report.{entry_line, log_lines, outcome_lines, report_lines, value_lines};
+ghost use Rattle.lp_text.specs.Report.{basis_lines, entry_line, log_lines, number_line, number_lines, outcome_lines, report_lines, text_of_report, value_lines, version_line};
 ghost use Rattle.deck_model.specs.Outcome.{HasLengthsOf, outcome_of};
 ghost use Rattle.cert_text.specs.Line.{line_text};
 ghost use Rattle.cert_text.specs.Names.{names_of};
-ghost use Rattle.cert_text.specs.Report.{text_of_report};
 ghost use Rattle.cert_text.specs.Writes.{Writes};
 
 use crate::fault::ReportWriteFault;
 use crate::line::Line;
 use crate::report::Report;
-use deck_model::{Deck, Entry, Outcome};
+use deck_model::{Basis, Deck, Entry, Log, Numbers, Outcome};
 use exact_frac::Fracs;
 use io_ends::{Sink, write_all};
 use std::alloc::Global;
 
-/// Writes the report of a deck, each line as one piece.
+/// Writes the report of a deck, each line as one piece: of version 2 where it tells a basis, and else of version 1.
 ///
 /// # Errors
 ///
@@ -28,7 +27,7 @@ pub fn write_report<K: Sink>(
     report: &Report,
     out: &mut K,
 ) -> Result<(), ReportWriteFault>
-    requires { HasLengthsOf deck.now (outcome_of report.now.outcome) }
+    requires { HasLengthsOf deck.now report.now.outcome }
     ensures appended { OnOk result (Appends (K.contents out.old) (K.contents out.new) (text_of_report deck.now report.now)) }
     ensures stays { OnOk result (K.fault_count out.new ≡ K.fault_count out.old) }
 
@@ -38,24 +37,45 @@ pub fn write_report<K: Sink>(
     ensures never_falls { K.fault_count out.old ≤ K.fault_count out.new }
 {
     let mut buffer = Vec::new(alloc);
-    write_lines(&mut buffer, deck, report, out)
+    write_lines(
+        &mut buffer,
+        deck,
+        &report.outcome,
+        &report.basis,
+        &report.log,
+        out,
+    )
 }
 
-// Writes all lines of a report.
+// Writes all lines of a report of these parts.
 fn write_lines<K: Sink>(
     buffer: &mut Vec<u8>,
     deck: &Deck,
-    report: &Report,
+    outcome: &Outcome,
+    basis: &Option<Basis>,
+    log: &Option<Log>,
     out: &mut K,
 ) -> Result<(), ReportWriteFault>
-    requires { HasLengthsOf deck.now (outcome_of report.now.outcome) }
-    ensures { Writes K.contents K.fault_count out.old out.new (report_lines deck.now (outcome_of report.now.outcome) report.now.log) result }
+    requires { HasLengthsOf deck.now (outcome_of outcome.now) }
+    ensures { Writes K.contents K.fault_count out.old out.new
+        (report_lines deck.now (record { outcome = outcome_of outcome.now; basis = basis.now; log = log.now })) result }
 {
-    write_line(buffer, &Line::Word(b"LPCERT 1"), out)?;
+    write_line(buffer, &Line::Word(version(basis)), out)?;
     write_line(buffer, &Line::Deck(deck.name().bytes()), out)?;
-    write_outcome(buffer, deck, &report.outcome, out)?;
-    write_log(buffer, report, out)?;
+    write_outcome(buffer, deck, outcome, out)?;
+    write_basis(buffer, basis, out)?;
+    write_log(buffer, log, out)?;
     write_line(buffer, &Line::Word(b"END"), out)
+}
+
+// The first line of a report with such a basis.
+fn version(basis: &Option<Basis>) -> &'static [u8]
+    ensures { result.now ≡ version_line basis.now }
+{
+    match basis {
+        None => b"LPCERT 1",
+        Some(_) => b"LPCERT 2",
+    }
 }
 
 // Writes the lines of an outcome.
@@ -106,18 +126,62 @@ fn write_values<K: Sink>(
     Ok(())
 }
 
+// Writes the lines of the basis, where the report tells one.
+fn write_basis<K: Sink>(
+    buffer: &mut Vec<u8>,
+    basis: &Option<Basis>,
+    out: &mut K,
+) -> Result<(), ReportWriteFault>
+    ensures { Writes K.contents K.fault_count out.old out.new (basis_lines basis.now) result }
+{
+    let Some(basis) = basis else {
+        return Ok(());
+    };
+    write_numbers(buffer, b"BASIS", b"BASIC", &basis.basic, out)?;
+    write_numbers(buffer, b"UPPER", b"AT", &basis.upper, out)
+}
+
+// Writes a line that tells how many numbers there are, and one for each of them.
+fn write_numbers<K: Sink>(
+    buffer: &mut Vec<u8>,
+    count_word: &[u8],
+    word: &[u8],
+    numbers: &Numbers,
+    out: &mut K,
+) -> Result<(), ReportWriteFault>
+    ensures { Writes K.contents K.fault_count out.old out.new (number_lines count_word.now word.now numbers.now) result }
+{
+    write_line(buffer, &Line::Number(count_word, numbers.len()), out)?;
+    write_each_number(buffer, word, numbers.as_slice(), out)
+}
+
+// Writes a line for each number, behind a word.
+fn write_each_number<K: Sink>(
+    buffer: &mut Vec<u8>,
+    word: &[u8],
+    numbers: &[u32],
+    out: &mut K,
+) -> Result<(), ReportWriteFault>
+    ensures { Writes K.contents K.fault_count out.old out.new (map (number_line word.now) numbers.now) result }
+{
+    for number in numbers {
+        write_line(buffer, &Line::Number(word, *number as usize), out)?;
+    }
+    Ok(())
+}
+
 // Writes the lines of the log, where the report has one.
 fn write_log<K: Sink>(
     buffer: &mut Vec<u8>,
-    report: &Report,
+    log: &Option<Log>,
     out: &mut K,
 ) -> Result<(), ReportWriteFault>
-    ensures { Writes K.contents K.fault_count out.old out.new (log_lines report.now.log) result }
+    ensures { Writes K.contents K.fault_count out.old out.new (log_lines log.now) result }
 {
-    let Some(log) = &report.log else {
+    let Some(log) = log else {
         return Ok(());
     };
-    write_line(buffer, &Line::Log(log.len()), out)?;
+    write_line(buffer, &Line::Number(b"LOG", log.len()), out)?;
     write_entries(buffer, log.entries(), out)
 }
 

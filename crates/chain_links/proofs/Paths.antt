@@ -58,7 +58,8 @@ module _ (l : BothWays) (i a b : ℕ) (ha : a < length l.next) (hb : b < length 
         subst (λ ws. Leads (with_link l a b) x ws e) (sym (without-other i z zs zi)) (AreLinked-over x z g h.0, Leads-without_node zs z e h.1 zi ei)
 
 -- the paths when i, which no path meets, is put between a and h
-module _ (l : BothWays) (i h a : ℕ) (ha : a < length l.next) (i_next : i < length l.next) (i_prev : i < length l.prev) (hh : h < length l.prev) (last : AreLinked l a h) (i≢h : i ≢ h) (a≢i : a ≢ i) where
+module _ (l : BothWays) (i h a : ℕ) (ha : a < length l.next) (i_next : i < length l.next) (i_prev : i < length l.prev) (hh : h < length l.prev)
+    (last : AreLinked l a h) (i≢h : i ≢ h) (a≢i : a ≢ i) where
   AreLinked-apart : (x y : ℕ) → AreLinked l x y → x ≢ i → y ≢ i → y ≢ h → AreLinked (with_link (with_link l a i) i h) x y
   AreLinked-apart x y g xi yi yh =
       AreLinked-with_link_other (with_link l a i) i h x y (AreLinked-with_link_other l a i x y g (λ e. yh (cc)) yi) xi yh
@@ -166,7 +167,8 @@ module _ (l : BothWays) where
   IsDistinct-path (y ∷ ys) x e h no_x =
       let parts = or_parts (eqb x y) (has x ys) no_x in
       let no_y : has y ys ≡ false =
-      false_from_ne_true (has y ys) (λ has_y. ⊎_elim (λ same. both_ways (eqb x y) parts.0 (eq-eqb x y (sym h.0.1 ∙ same))) (λ there. both_ways (has x ys) parts.1 (subst (λ u. has u ys ≡ true) h.0.1 there)) (has-prev ys y e y h.1 has_y)) in
+      false_from_ne_true (has y ys) (λ has_y. ⊎_elim (λ same. both_ways (eqb x y) parts.0 (eq-eqb x y (sym h.0.1 ∙ same)))
+      (λ there. both_ways (has x ys) parts.1 (subst (λ u. has u ys ≡ true) h.0.1 there)) (has-prev ys y e y h.1 has_y)) in
       (differ_from_lacks y ys no_y, IsDistinct-path ys y e h.1 no_y)
 
   -- following the links gives the path
@@ -176,7 +178,8 @@ module _ (l : BothWays) where
       cond-false (ltb (next_of l x) items) _ _ (le-ltb _ _ (omega (arith, h.0)))
   items_from-path items zero (y ∷ ys) x e h below out short = absurd (omega arith)
   items_from-path items (suc most) (y ∷ ys) x e h below out short =
-      rw h.0.0 (cond-true (ltb y items) _ _ (lt-ltb _ _ (All-head (λ y. y < items) y ys below)) ∙ ap (λ t. y ∷ t) (items_from-path items most ys y e h.1 (All-tail (λ y. y < items) y ys below) out (omega arith)))
+      rw h.0.0 (cond-true (ltb y items) _ _ (lt-ltb _ _ (All-head (λ y. y < items) y ys below))
+      ∙ ap (λ t. y ∷ t) (items_from-path items most ys y e h.1 (All-tail (λ y. y < items) y ys below) out (omega arith)))
 
 -- a path with one more link at its end
 Leads-push : (l : BothWays) (xs : List ℕ) (x y e : ℕ) → Leads l x xs y → AreLinked l y e → Leads l x (xs ++ y ∷ []) e

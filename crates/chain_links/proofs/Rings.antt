@@ -50,7 +50,9 @@ module _ (l : BothWays) (items h : ℕ) (xs : List ℕ) (up : items ≤ h) (lead
   ring-path = items_from-path l items items xs h h leads below up length-path
 
 -- links whose paths are known at each end
-pub IsClosed-from : (l : BothWays) (items n : ℕ) (ws : ℕ → List ℕ) → HasNodes l n → ((h : ℕ) → items ≤ h → h < n → Leads l h (ws h) h × All (λ x. x < items) (ws h)) → IsClosed l items n × ((h : ℕ) → items ≤ h → h < n → ring l items h ≡ ws h)
+pub IsClosed-from : (l : BothWays) (items n : ℕ) (ws : ℕ → List ℕ) → HasNodes l n
+    → ((h : ℕ) → items ≤ h → h < n → Leads l h (ws h) h × All (λ x. x < items) (ws h)) → IsClosed l items n
+    × ((h : ℕ) → items ≤ h → h < n → ring l items h ≡ ws h)
 IsClosed-from l items n ws nodes paths =
     let same = λ (h : ℕ) (up : items ≤ h) (hn : h < n). ring-path l items h (ws h) up (paths h up hn).0 (paths h up hn).1 in
     (record { nodes = nodes; closed = λ h up hn. subst (λ xs. Leads l h xs h) (sym (same h up hn)) (paths h up hn).0 }, same)
@@ -107,7 +109,8 @@ module _ (l : BothWays) (items n : ℕ) (ok : IsClosed l items n) where
         let h_other = λ (h : ℕ) (up : items ≤ h) (e : h ≡ i). let r : ⊥ = omega (arith, held_below) in r in
         IsClosed-from _ items n (λ h. without i (ring l items h)) (HasNodes-with_link l _ _ _ ok.nodes a_node b_node)
         (λ h up hn. (
-          Leads-without_node l i (prev_of l i) (next_of l i) (omega (arith, ok.nodes.next_len)) (omega (arith, ok.nodes.prev_len)) held_linked.0 held_linked.1 next_other _ h h (ok.closed h up hn) (h_other h up) (h_other h up),
+          Leads-without_node l i (prev_of l i) (next_of l i) (omega (arith, ok.nodes.next_len))
+              (omega (arith, ok.nodes.prev_len)) held_linked.0 held_linked.1 next_other _ h h (ok.closed h up hn) (h_other h up) (h_other h up),
           All-filter _ (λ x. x < items) _ (ring_below h),
         ))
 
@@ -128,13 +131,16 @@ module _ (l : BothWays) (items n : ℕ) (ok : IsClosed l items n) where
       last_other e =
           ⊎_elim (λ (head : prev_of l k ≡ k). omega arith) (λ there. All-has (λ x. x ≢ i) _ _ (lacks k uk kn) there e) (has-last l _ _ _ (ok.closed k uk kn))
 
-      pub IsClosed-with_node_before : IsClosed (with_node_before l i k) items n × ((h : ℕ) → items ≤ h → h < n → ring (with_node_before l i k) items h ≡ cond (eqb h k) (ring l items h ++ i ∷ []) (ring l items h))
+      pub IsClosed-with_node_before : IsClosed (with_node_before l i k) items n ×
+          ((h : ℕ) → items ≤ h → h < n → ring (with_node_before l i k) items h ≡ cond (eqb h k) (ring l items h ++ i ∷ []) (ring l items h))
       IsClosed-with_node_before =
           let a_node = prev_below k kn in
           let nodes = HasNodes-with_link _ _ i k (HasNodes-with_link l _ _ i ok.nodes a_node in_range) in_range kn in
           let end_linked = last-linked l _ _ _ (ok.closed k uk kn) in
           let k_other = end_other k uk in
-          let pushes = Leads-with_node_before l i k (prev_of l k) (omega (arith, ok.nodes.next_len)) (omega (arith, ok.nodes.next_len)) (omega (arith, ok.nodes.prev_len)) (omega (arith, ok.nodes.prev_len)) end_linked (λ e. k_other (sym e)) last_other _ k (ok.closed k uk kn) k_other (lacks k uk kn) (lacks_above items k _ uk (ring_below k)) in
+          let pushes = Leads-with_node_before l i k (prev_of l k) (omega (arith, ok.nodes.next_len)) (omega (arith, ok.nodes.next_len))
+          (omega (arith, ok.nodes.prev_len)) (omega (arith, ok.nodes.prev_len)) end_linked (λ e. k_other (sym e)) last_other _ k (ok.closed k uk kn) k_other
+          (lacks k uk kn) (lacks_above items k _ uk (ring_below k)) in
           IsClosed-from _ items n (λ h. cond (eqb h k) (ring l items h ++ i ∷ []) (ring l items h)) nodes
           (λ h up hn. cond_both (eqb h k) _ _ (λ ws. Leads (with_node_before l i k) h ws h × All (λ x. x < items) ws)
           (λ yes. (
@@ -142,7 +148,9 @@ module _ (l : BothWays) (items n : ℕ) (ok : IsClosed l items n) where
             All-push (λ x. x < items) _ i (ring_below h) hi,
           ))
           (λ no. (
-            Leads-apart l i k (prev_of l k) (omega (arith, ok.nodes.next_len)) (omega (arith, ok.nodes.next_len)) (omega (arith, ok.nodes.prev_len)) (omega (arith, ok.nodes.prev_len)) end_linked (λ e. k_other (sym e)) last_other _ h h (ok.closed h up hn) (end_other h up) (end_other h up) (eqb-false h k no) (lacks h up hn) (lacks_above items k _ uk (ring_below h)),
+            Leads-apart l i k (prev_of l k) (omega (arith, ok.nodes.next_len)) (omega (arith, ok.nodes.next_len)) (omega (arith, ok.nodes.prev_len))
+                (omega (arith, ok.nodes.prev_len)) end_linked (λ e. k_other (sym e)) last_other _ h h (ok.closed h up hn) (end_other h up) (end_other h up)
+                (eqb-false h k no) (lacks h up hn) (lacks_above items k _ uk (ring_below h)),
             ring_below h,
           )))
 

@@ -42,7 +42,8 @@ module _ (l : BothWays) (items counts : ℕ) where
   pub IsChained-chains : IsClosed l items (items + counts) → IsChained (chains_of l items counts)
   IsChained-chains ok = record {
     below = λ c. ⊎_elim (λ hc. rw (list_at-ring c hc) (All-items_from l.next items items (next_of l (items + c)))) (λ past. rw (list_at-past c past) (All-nil (λ i. i < items))) (cases_lt c counts);
-    once = λ c. ⊎_elim (λ hc. rw (list_at-ring c hc) (IsDistinct-ring l items (items + counts) ok (items + c) (omega arith) (omega arith))) (λ past. rw (list_at-past c past) IsDistinct-nil) (cases_lt c counts);
+    once = λ c. ⊎_elim (λ hc. rw (list_at-ring c hc) (IsDistinct-ring l items (items + counts) ok (items + c) (omega arith) (omega arith)))
+        (λ past. rw (list_at-past c past) IsDistinct-nil) (cases_lt c counts);
     apart = λ c d i in_c in_d.
         let a = held_from c i in_c in
         let b = held_from d i in_d in
@@ -51,16 +52,19 @@ module _ (l : BothWays) (items counts : ℕ) where
   }
 
 -- lists that are known at each count
-chains-same : (l : BothWays) (items counts : ℕ) (lists : List (List ℕ)) → length lists ≡ counts → ((c : ℕ) → c < counts → get_or lists c [] ≡ ring l items (items + c)) → chains_of l items counts ≡ record { items = items; lists = lists }
+chains-same : (l : BothWays) (items counts : ℕ) (lists : List (List ℕ)) → length lists ≡ counts
+    → ((c : ℕ) → c < counts → get_or lists c [] ≡ ring l items (items + c)) → chains_of l items counts ≡ record { items = items; lists = lists }
 chains-same l items counts lists len at =
     ap (λ (ls : List (List ℕ)). record { items = items; lists = ls }) (sym (fill_by_all (λ c. ring l items (items + c)) lists counts [] len at))
 
 -- new chains
-pub IsLinked-loops : (items counts : ℕ) → items + counts < 2 ^ 64 → IsLinked (loops (items + counts)) items counts × (chains_of (loops (items + counts)) items counts ≡ record { items = items; lists = replicate counts [] })
+pub IsLinked-loops : (items counts : ℕ) → items + counts < 2 ^ 64 → IsLinked (loops (items + counts)) items counts
+    × (chains_of (loops (items + counts)) items counts ≡ record { items = items; lists = replicate counts [] })
 IsLinked-loops items counts fits =
     let (closed, empty) = IsClosed-loops items (items + counts) in (
       record { fits = fits; closed = closed; loose = λ i hi other. absurd (other (omega (arith, get_or-range_with_len 0 (items + counts) i 0 (omega arith)))) },
-      chains-same (loops (items + counts)) items counts (replicate counts []) (length-replicate counts []) (λ c hc. get_or-replicate counts c [] [] hc ∙ sym (empty (items + c) (omega arith) (omega arith))),
+      chains-same (loops (items + counts)) items counts (replicate counts []) (length-replicate counts [])
+          (λ c hc. get_or-replicate counts c [] [] hc ∙ sym (empty (items + c) (omega arith) (omega arith))),
     )
 
 module _ (l : BothWays) (items counts i : ℕ) (ok : IsLinked l items counts) where
@@ -74,7 +78,9 @@ module _ (l : BothWays) (items counts i : ℕ) (ok : IsLinked l items counts) wh
         let at_h : items + (h - items) ≡ h = omega arith in
         subst (λ u. Lacks i (ring l items u)) at_h (lacks_from i _ (λ held. free (placed_from l items counts i (h - items) (omega arith) (has-from_Contains i _ held))))
 
-    closed_with_node_before : IsClosed (with_node_before l i (items + k)) items (items + counts) × ((c : ℕ) → c < counts → ring (with_node_before l i (items + k)) items (items + c) ≡ cond (eqb (items + c) (items + k)) (ring l items (items + c) ++ i ∷ []) (ring l items (items + c)))
+    closed_with_node_before : IsClosed (with_node_before l i (items + k)) items (items + counts)
+        × ((c : ℕ) → c < counts → ring (with_node_before l i (items + k)) items (items + c) ≡ cond (eqb (items + c) (items + k))
+        (ring l items (items + c) ++ i ∷ []) (ring l items (items + c)))
     closed_with_node_before =
         let (closed, same) = IsClosed-with_node_before l items (items + counts) ok.closed i hi (omega (arith, k_below)) lacks (items + k) (omega arith) (omega (arith, k_below)) in
         (closed, λ c hc. same (items + c) (omega arith) (omega arith))
@@ -86,15 +92,22 @@ module _ (l : BothWays) (items counts i : ℕ) (ok : IsLinked l items counts) wh
 
     has-with_node_before_last : has i (ring (with_node_before l i (items + k)) items (items + k)) ≡ true
     has-with_node_before_last =
-        rw (closed_with_node_before.1 k k_below ∙ cond-true (eqb (items + k) (items + k)) _ _ (eq-eqb (items + k) (items + k) refl)) (list_any-append (eqb i) _ (i ∷ []) ∙ or_right (has i (ring l items (items + k))) _ (or_left (eqb i i) _ (eq-eqb i i refl)))
+        rw (closed_with_node_before.1 k k_below ∙ cond-true (eqb (items + k) (items + k)) _ _ (eq-eqb (items + k) (items + k) refl))
+        (list_any-append (eqb i) _ (i ∷ []) ∙ or_right (has i (ring l items (items + k))) _ (or_left (eqb i i) _ (eq-eqb i i refl)))
 
-    loose-with_node_before : (j : ℕ) → j < items → next_of (with_node_before l i (items + k)) j ≢ j → (c : ℕ) × (c < counts) × (has j (ring (with_node_before l i (items + k)) items (items + c)) ≡ true)
+    loose-with_node_before : (j : ℕ) → j < items → next_of (with_node_before l i (items + k)) j ≢ j → (c : ℕ) × (c < counts)
+        × (has j (ring (with_node_before l i (items + k)) items (items + c)) ≡ true)
     loose-with_node_before j hj other =
         let last = prev_of l (items + k) in
         ⊎_elim
         (λ (same : j ≡ i). (k, k_below, rw same has-with_node_before_last))
         (λ (j_i : j ≢ i). ⊎_elim
-        (λ (is_last : j ≡ last). (k, k_below, has-with_node_before j k k_below (⊎_elim (λ (head : last ≡ items + k). absurd (omega arith)) (λ there. rw is_last there) (has-last l _ _ _ (ok.closed.closed (items + k) (omega arith) (omega (arith, k_below)))))))
+        (λ (is_last : j ≡ last). (
+          k,
+          k_below,
+          has-with_node_before j k k_below (⊎_elim (λ (head : last ≡ items + k). absurd (omega arith))
+              (λ there. rw is_last there) (has-last l _ _ _ (ok.closed.closed (items + k) (omega arith) (omega (arith, k_below))))),
+        ))
         (λ (j_last : j ≢ last).
         let same : next_of (with_node_before l i (items + k)) j ≡ next_of l j =
         get_or-set_other _ i j (items + k) 0 j_i ∙ get_or-set_other l.next last j i 0 j_last in
@@ -112,8 +125,10 @@ module _ (l : BothWays) (items counts i : ℕ) (ok : IsLinked l items counts) wh
         let more = list_at (chains_of l items counts) k ++ i ∷ [] in
         chains-same (with_node_before l i (items + k)) items counts (set lists k more) (length-set lists k more ∙ length-lists l items counts)
         (λ c hc. ⊎_elim
-        (λ same. rw same (get_or-set_same lists k more [] hk ∙ ap (λ xs. xs ++ i ∷ []) (list_at-ring l items counts k k_below) ∙ sym (closed_with_node_before.1 k k_below ∙ cond-true (eqb (items + k) (items + k)) _ _ (eq-eqb (items + k) (items + k) refl))))
-        (λ other. get_or-set_other lists k c more [] other ∙ list_at-ring l items counts c hc ∙ sym (closed_with_node_before.1 c hc ∙ cond-false (eqb (items + c) (items + k)) _ _ (ne_eqb (items + c) (items + k) (λ e. other (omega arith)))))
+        (λ same. rw same (get_or-set_same lists k more [] hk ∙ ap (λ xs. xs ++ i ∷ []) (list_at-ring l items counts k k_below)
+        ∙ sym (closed_with_node_before.1 k k_below ∙ cond-true (eqb (items + k) (items + k)) _ _ (eq-eqb (items + k) (items + k) refl))))
+        (λ other. get_or-set_other lists k c more [] other ∙ list_at-ring l items counts c hc
+        ∙ sym (closed_with_node_before.1 c hc ∙ cond-false (eqb (items + c) (items + k)) _ _ (ne_eqb (items + c) (items + k) (λ e. other (omega arith)))))
         (cases_eq c k))
 
   -- an item of some list is taken out
@@ -130,10 +145,12 @@ module _ (l : BothWays) (items counts i : ℕ) (ok : IsLinked l items counts) wh
     linked : AreLinked l (prev_of l i) i × AreLinked l i (next_of l i)
     linked = held_linked l items (items + counts) ok.closed i (items + held_in.0) (omega arith) end_below held_in.2
 
-    closed_loosened : IsClosed (with_link (without_node l i) i i) items (items + counts) × ((c : ℕ) → c < counts → ring (with_link (without_node l i) i i) items (items + c) ≡ without i (ring l items (items + c)))
+    closed_loosened : IsClosed (with_link (without_node l i) i i) items (items + counts)
+        × ((c : ℕ) → c < counts → ring (with_link (without_node l i) i i) items (items + c) ≡ without i (ring l items (items + c)))
     closed_loosened =
         let (taken, shorter) = IsClosed-without_node l items (items + counts) ok.closed i (items + held_in.0) (omega arith) end_below held_in.2 in
-        let gone = λ (h : ℕ) (up : items ≤ h) (hn : h < items + counts). lacks_from i (ring (without_node l i) items h) (λ held. both_ways _ (has-without_same i (ring l items h)) (subst (λ xs. has i xs ≡ true) (shorter h up hn) (has-from_Contains i _ held))) in
+        let gone = λ (h : ℕ) (up : items ≤ h) (hn : h < items + counts). lacks_from i (ring (without_node l i) items h)
+        (λ held. both_ways _ (has-without_same i (ring l items h)) (subst (λ xs. has i xs ≡ true) (shorter h up hn) (has-from_Contains i _ held))) in
         let (closed, same) = IsClosed-loosened (without_node l i) items (items + counts) taken i i_below (omega (arith, i_below)) gone in
         (closed, λ c hc. let up : items ≤ items + c = omega arith in let hn : items + c < items + counts = omega arith in same (items + c) up hn ∙ shorter (items + c) up hn)
 
@@ -215,7 +232,11 @@ next_says l items counts i c v ok is held =
     let same = ap (λ u. list_at u c) (sym is) ∙ list_at-ring l items counts c hc in
     rw same (⊎_elim
     (λ p. inr (omega (arith, p.0), sym p.1))
-    (λ p. inl (All-has (λ x. x < items) _ _ (All-items_from l.next items items (next_of l (items + c))) p.0, next_other l items (items + counts) ok.closed i (items + c) (omega arith) (omega (arith, hc)) h, sym p.1))
+    (λ p. inl (
+      All-has (λ x. x < items) _ _ (All-items_from l.next items items (next_of l (items + c))) p.0,
+      next_other l items (items + counts) ok.closed i (items + c) (omega arith) (omega (arith, hc)) h,
+      sym p.1,
+    ))
     (after-path l (ring l items (items + c)) (items + c) (items + c) i (ok.closed.closed (items + c) (omega arith) (omega (arith, hc))) h))
 
 -- an item that is not linked to itself is in a list, and no other is

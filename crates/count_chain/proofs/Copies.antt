@@ -85,7 +85,8 @@ AreCopied-none of ch items counts len is = record {
   items_are = ap (λ (a : Chains). a.items) is;
   len = ap (λ (a : Chains). length a.lists) is ∙ length-replicate {A = List ℕ} counts [] ∙ sym len;
   done = λ k lt. absurd (omega arith);
-  left = λ k _. ap (λ (a : Chains). list_at a k) is ∙ ⊎_elim (λ (lt : k < counts). get_or-replicate counts k [] [] lt) (λ (le : counts ≤ k). get_or_past (replicate {A = List ℕ} counts []) k [] (omega (arith, length-replicate {A = List ℕ} counts []))) (cases_lt k counts);
+  left = λ k _. ap (λ (a : Chains). list_at a k) is ∙ ⊎_elim (λ (lt : k < counts). get_or-replicate counts k [] [] lt)
+      (λ (le : counts ≤ k). get_or_past (replicate {A = List ℕ} counts []) k [] (omega (arith, length-replicate {A = List ℕ} counts []))) (cases_lt k counts);
 }
 
 -- what a list holds is in no list that was copied before
@@ -111,7 +112,8 @@ AreCopied-more of ch ch' items c lt h is =
 
 pub copied_all : (of ch : Chains) (items c : ℕ) → length of.lists ≡ c → AreCopied of ch items c → ch ≡ record { items = items; lists = of.lists }
 copied_all of ch items c all h =
-    let lists : ch.lists ≡ of.lists = same_lists ch.lists of.lists h.len (λ k d lt. get_or_default ch.lists k d [] lt ∙ h.done k (omega (arith, h.len)) ∙ get_or_default of.lists k [] d (omega (arith, h.len))) in
+    let lists : ch.lists ≡ of.lists = same_lists ch.lists of.lists h.len (λ k d lt. get_or_default ch.lists k d [] lt ∙ h.done k (omega (arith, h.len))
+    ∙ get_or_default of.lists k [] d (omega (arith, h.len))) in
     same_chains ch (record { items = items; lists = of.lists }) h.items_are lists
 
 pub IsChained-grown : (of ch : Chains) (items : ℕ) → of.items ≤ items → IsChained of → ch ≡ record { items = items; lists = of.lists } → IsChained ch

@@ -5,7 +5,7 @@ use Rattle.lp_model.specs.declared.Place.{Place}
 use Rattle.lp_model.specs.Outcome.{Outcome, infeasible, optimal, unbounded}
 use Rattle.rational.specs.Rational.{ℚ}
 use Rattle.rational.specs.Sum.{at}
-use Rattle.lp_run.specs.Ends.{Gives, HasOutcome, by_position, objective_at, point, prices_in, ray}
+use Rattle.lp_run.specs.Ends.{Yields, HasOutcome, by_position, objective_at, point, prices_in, ray}
 use Rattle.lp_run.specs.Instance.{Instance, structural_count}
 use Rattle.lp_run.specs.Listing.{IsFirstTotal, first_unfit, total_listing}
 use Rattle.lp_run.specs.State.{rest}
@@ -24,14 +24,14 @@ use Rattle.crew.specs.Inner.Parts.{IsClosingFault, IsUnderWay}
 
 module _ (inst : Instance) (t : Plain) where
   pub gives_optimum : EndsBy inst t end.Optimal → (x y : List ℚ) (v : ℚ) → x ≡ point inst t.state t.values → y ≡ prices_in inst.sense (prices inst t) → v ≡ objective_at inst x
-      → Gives inst t.state (optimal x y v)
+      → Yields inst t.state (optimal x y v)
   gives_optimum ends x y v is_x is_y is_v = (prices inst t, t.values, ends, is_y, is_x, is_v)
 
-  pub gives_farkas : EndsBy inst t end.Infeasible → (y : List ℚ) → y ≡ prices inst t → Gives inst t.state (infeasible y)
-  gives_farkas ends y is_y = subst (λ y. Gives inst t.state (infeasible y)) (sym is_y) (t.values, ends)
+  pub gives_farkas : EndsBy inst t end.Infeasible → (y : List ℚ) → y ≡ prices inst t → Yields inst t.state (infeasible y)
+  gives_farkas ends y is_y = subst (λ y. Yields inst t.state (infeasible y)) (sym is_y) (t.values, ends)
 
   pub gives_ray : (q : ℕ) → EndsBy inst t (end.Unbounded q) → (log : List Entry) → Stands inst log t → (x r : List ℚ) → x ≡ point inst t.state t.values
-      → r ≡ ray inst t.state q (direction (at t.costs q)) (column inst t q) → Gives inst t.state (unbounded x r)
+      → r ≡ ray inst t.state q (direction (at t.costs q)) (column inst t q) → Yields inst t.state (unbounded x r)
   gives_ray q ends log stands x r is_x is_r = (
     prices inst t,
     t.values,
@@ -69,5 +69,5 @@ module _ (w : ℕ) (inst : Instance) (budget : ℕ) (log : List Entry) (t : Plai
   closing_cause (fault.Overflow here) h = (log, t.state, way.stands.table.reached, way.within, inr h)
   closing_cause (fault.Budget n) h = absurd h
 
-  pub has_outcome : (o : Outcome) → Gives inst t.state o → HasOutcome inst log o
+  pub has_outcome : (o : Outcome) → Yields inst t.state o → HasOutcome inst log o
   has_outcome o gives = (t.state, way.stands.table.reached, gives)

@@ -5,7 +5,7 @@ use Rattle.lp_model.specs.declared.Entry.{Entry}
 use Rattle.lp_model.specs.declared.Place.{Place}
 use Rattle.lp_model.specs.Log.{moves}
 use Rattle.lp_model.specs.Outcome.{Outcome, infeasible, optimal, unbounded}
-use Rattle.lp_run.specs.Ends.{Gives, HasOutcome}
+use Rattle.lp_run.specs.Ends.{Yields, HasOutcome}
 use Rattle.lp_run.specs.Instance.{Instance, IsWellFormed}
 use Rattle.lp_run.specs.Listing.{AllFit, IsFirstTotal, IsFirstUnfit, Listed, MakingLists, Overflows, RunFits, StepLists, StepsList, WorkedBefore, first_unfit, start_listing}
 use Rattle.lp_run.specs.Run.{IsRun, IsSpent, Leads}
@@ -58,7 +58,7 @@ not_unfit inst w budget here fits (log, s, run, within, unfit) = by_part w inst 
 
 -- ── the budget ──
 
-final : (inst : Instance) (s : State) (o : Outcome) → Gives inst s o → IsFinal inst s
+final : (inst : Instance) (s : State) (o : Outcome) → Yields inst s o → IsFinal inst s
 final inst s (optimal x y v) (z, β, ends, prices, point, value) = inl (z, β, ends)
 final inst s (infeasible y) (β, ends) = inr (inl (y, β, ends))
 final inst s (unbounded x r) (y, β, α, q, ends, point, ray) = inr (inr (y, β, α, q, ends))

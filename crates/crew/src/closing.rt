@@ -3,7 +3,7 @@ ghost use Rattle.std.specs.Prelude.{◌≡◌, ◌≤◌, List, IfErr, IfOk};
 ghost use Rattle.plain_table.specs.declared.next.End.TheVariants as end;
 ghost use Rattle.deck_model.specs.Outcome.{outcome_of};
 ghost use Rattle.lp_model.specs.declared.Entry.{Entry};
-ghost use Rattle.lp_run.specs.Ends.{Gives};
+ghost use Rattle.lp_run.specs.Ends.{Yields};
 ghost use Rattle.plain_table.specs.Plain.{Stands};
 ghost use Rattle.crew.specs.Inner.Parts.{EndsAt, IsClosingFault};
 
@@ -36,7 +36,7 @@ pub fn outcome<A: Arith>(
     arith: &mut A,
 ) -> Result<Outcome, CrewFault>
     requires { EndsAt inst.now table.now end }
-    ensures outcome { IfOk result (λ outcome. Gives inst.now table.now.state (outcome_of outcome)) }
+    ensures outcome { IfOk result (λ outcome. Yields inst.now table.now.state (outcome_of outcome)) }
     ensures fault { IfErr result (λ fault. (log : List Entry) → Stands inst.now log table.now → IsClosingFault (A.width arith.old) inst.now log table.now fault) }
     ensures width { A.width arith.new ≡ A.width arith.old }
     ensures unfit { A.unfit_count arith.old ≤ A.unfit_count arith.new }
@@ -61,7 +61,7 @@ fn optimum<A: Arith>(
     arith: &mut A,
 ) -> Result<Outcome, CrewFault>
     requires { EndsAt inst.now table.now end.Optimal }
-    ensures outcome { IfOk result (λ outcome. Gives inst.now table.now.state (outcome_of outcome)) }
+    ensures outcome { IfOk result (λ outcome. Yields inst.now table.now.state (outcome_of outcome)) }
     ensures fault { IfErr result (λ fault. (log : List Entry) → Stands inst.now log table.now → IsClosingFault (A.width arith.old) inst.now log table.now fault) }
     ensures width { A.width arith.new ≡ A.width arith.old }
     ensures unfit { A.unfit_count arith.old ≤ A.unfit_count arith.new }

@@ -2,7 +2,6 @@
 
 use lp_model::Place;
 use no_memory::Memory;
-use plain_table::TableFault;
 use std::alloc::AllocError;
 use thiserror::Error;
 

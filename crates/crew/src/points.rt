@@ -5,15 +5,15 @@ ghost use Rattle.rational.specs.Sparse.{upto};
 ghost use Rattle.rational.specs.Sum.{at};
 ghost use Rattle.lp_run.specs.Ends.{by_position, point as point_of, prices_in, ray as ray_of};
 ghost use Rattle.lp_run.specs.Instance.{column_count, structural_count};
-ghost use Rattle.lp_run.specs.State.{rest as rest_of};
+ghost use Rattle.lp_run.specs.State.{rest};
 ghost use Rattle.lp_run.specs.Step.{direction};
 ghost use Rattle.bland_ratio.specs.Leave.{direction_where};
 ghost use Rattle.plain_table.specs.Next.{IsTableOf, column as column_of, prices as prices_of};
 
 use exact_frac::Frac;
 use instance_model::{Instance, State};
-use lp_model::{Sense, Status};
-use plain_table::{Table, falls};
+use lp_model::Sense;
+use plain_table::{Table, falls, rest_of};
 use std::alloc::{AllocError, Global};
 
 /// The values of the structurals.
@@ -79,28 +79,13 @@ fn place_basic(state: &State, numbers: &[Frac], out: &mut [Frac])
 // Where the structurals rest.
 fn rests(alloc: Global, inst: &Instance, state: &State) -> Result<Vec<Frac>, AllocError>
     requires { length state.now.statuses ≡ column_count inst.now }
-    ensures { IfOk result (λ x. x.items ≡ map (rest_of inst.now state.now) (upto (structural_count inst.now))) }
+    ensures { IfOk result (λ x. x.items ≡ map (rest inst.now state.now) (upto (structural_count inst.now))) }
 {
     let mut x = Vec::with_capacity(alloc, inst.structurals())?;
     for j in 0..inst.structurals() {
-        x.push(rest(inst, state, j))?;
+        x.push(rest_of(inst, state, j))?;
     }
     Ok(x)
-}
-
-// Where a column rests: at its lower or upper end, or at 0.
-#[tactic(auto, using(exact_frac::specs::Constants::constants))]
-fn rest(inst: &Instance, state: &State, j: usize) -> Frac
-    requires column { j < column_count inst.now }
-    requires statuses { length state.now.statuses ≡ column_count inst.now }
-    ensures { result ≡ rest_of inst.now state.now j }
-{
-    let bounds = inst.bounds(state.phase(), j);
-    match state.status(j) {
-        Status::Lower => bounds.lower().unwrap_or(Frac::ZERO),
-        Status::Upper => bounds.upper().unwrap_or(Frac::ZERO),
-        Status::Basic | Status::Zero => Frac::ZERO,
-    }
 }
 
 // The negated numbers.

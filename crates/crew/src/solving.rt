@@ -15,14 +15,17 @@ use instance_model::Instance;
 use lp_model::Entry;
 use plain_table::{End, Next, Table, TableFault};
 use std::alloc::Global;
+use std::thread::Threads;
 
-/// The outcome of an instance, by its one Bland run of at most so many moves, on one thread and a plain table.
+/// The outcome of an instance, by its one Bland run of at most so many moves, on a plain table, whose rows are worked in
+/// several threads where it is large.
 ///
 /// # Errors
 ///
 /// `Overflow` with the place of a value of the run that does not fit the width of the arithmetic, where the run comes to
 /// it within the budget; `Budget` with the budget where the run has more moves; `Memory` for want of memory.
-pub fn solve_alone<A: Arith>(
+pub fn solve_alone<R: Threads + Sync, A: Arith>(
+    rt: &R,
     alloc: Global,
     inst: &Instance,
     budget: u64,
@@ -35,7 +38,7 @@ pub fn solve_alone<A: Arith>(
 {
     let mut table = start(alloc, inst, budget, arith)?;
     let mut log = Log::new(alloc);
-    let end = run(inst, budget, &mut table, &mut log, arith)?;
+    let end = run(rt, inst, budget, &mut table, &mut log, arith)?;
     let outcome = outcome(alloc, inst, &table, end, arith)?;
     let moves = log.moves();
     Ok(Closed {
@@ -67,7 +70,8 @@ fn start<A: Arith>(
 }
 
 // Goes on to the end of the run.
-fn run<A: Arith>(
+fn run<R: Threads + Sync, A: Arith>(
+    rt: &R,
     inst: &Instance,
     budget: u64,
     table: &mut Table,
@@ -83,7 +87,7 @@ fn run<A: Arith>(
 {
     'entries: loop {
         match table.next(inst, arith) {
-            Ok(Next::Entry(entry)) => advance(inst, budget, entry, table, log, arith)?,
+            Ok(Next::Entry(entry)) => advance(rt, inst, budget, entry, table, log, arith)?,
             Ok(Next::End(end)) => return Ok(end),
             Err(place) => return Err(CrewFault::Overflow(place)),
         }
@@ -109,7 +113,8 @@ fn is_spent(budget: u64, log: &Log, entry: Entry) -> bool
 }
 
 // Takes in the next entry.
-fn advance<A: Arith>(
+fn advance<R: Threads + Sync, A: Arith>(
+    rt: &R,
     inst: &Instance,
     budget: u64,
     entry: Entry,
@@ -131,7 +136,7 @@ fn advance<A: Arith>(
     log.push(entry)?;
     let entries = log.len();
     prove!(table.number() < entries as u64);
-    match table.step(inst, entry, arith) {
+    match table.step(rt, inst, entry, arith) {
         Ok(()) => Ok(()),
         Err(place) => Err(CrewFault::Overflow(place)),
     }

@@ -95,7 +95,9 @@ length-without_item_same ch i k chained held =
     ap (λ ys. length ys + 1) (list_at-without_item ch i k) ∙ length-without i (list_at ch k) (chained.once k) held
 
 -- a line of another count in another bucket
-pub IsBucketed-moved : (ch ch' : Chains) (active : List Bool) (bs bs' : Chains) (i k : ℕ) → IsBucketed ch active bs → is_active active i ≡ true → length ch'.lists ≡ length ch.lists → length (list_at ch' i) ≡ k → ((x : ℕ) → x ≢ i → length (list_at ch' x) ≡ length (list_at ch x)) → k < length bs.lists → bs' ≡ with_item (without_item bs i) i k → IsChained bs' → IsBucketed ch' active bs'
+pub IsBucketed-moved : (ch ch' : Chains) (active : List Bool) (bs bs' : Chains) (i k : ℕ) → IsBucketed ch active bs → is_active active i ≡ true
+    → length ch'.lists ≡ length ch.lists → length (list_at ch' i) ≡ k → ((x : ℕ) → x ≢ i → length (list_at ch' x) ≡ length (list_at ch x)) → k < length bs.lists
+    → bs' ≡ with_item (without_item bs i) i k → IsChained bs' → IsBucketed ch' active bs'
 IsBucketed-moved ch ch' active bs bs' i k h act len here others le is chained =
     let below : k < length (without_item bs i).lists = omega (arith, length-map bs.lists (without i)) in
     let to = λ (c : Chains) (j x : ℕ). Contains (list_at c j) x in
@@ -104,8 +106,10 @@ IsBucketed-moved ch ch' active bs bs' i k h act len here others le is chained =
       lists = ap (λ (c : Chains). length c.lists) is ∙ length-set (without_item bs i).lists k _ ∙ length-map bs.lists (without i) ∙ h.lists ∙ ap (λ (n : ℕ). n + 1) (sym len);
       chained = chained;
       placed = λ x on. ⊎_elim
-          (λ (e : x ≡ i). subst (λ (y : ℕ). to bs' (length (list_at ch' y)) y) (sym e) (subst (λ (m : ℕ). to bs' m i) (sym here) (subst (λ (c : Chains). to c k i) (sym is) (item_held (without_item bs i) i k below))))
-          (λ (ne : x ≢ i). subst (λ (m : ℕ). to bs' m x) (sym (others x ne)) (subst (λ (c : Chains). to c (length (list_at ch x)) x) (sym is) (others_held (without_item bs i) i k _ x below (left_held bs i _ x ne (h.placed x on)))))
+          (λ (e : x ≡ i). subst (λ (y : ℕ). to bs' (length (list_at ch' y)) y) (sym e)
+          (subst (λ (m : ℕ). to bs' m i) (sym here) (subst (λ (c : Chains). to c k i) (sym is) (item_held (without_item bs i) i k below))))
+          (λ (ne : x ≢ i). subst (λ (m : ℕ). to bs' m x) (sym (others x ne)) (subst (λ (c : Chains). to c (length (list_at ch x)) x) (sym is)
+          (others_held (without_item bs i) i k _ x below (left_held bs i _ x ne (h.placed x on)))))
           (cases_eq x i);
       counted = λ x j held. ⊎_elim
           (λ (new : (x ≡ i) × (j ≡ k)). (ap (is_active active) new.0 ∙ act, ap (λ (y : ℕ). length (list_at ch' y)) new.0 ∙ here ∙ sym new.1))
@@ -116,7 +120,10 @@ IsBucketed-moved ch ch' active bs bs' i k h act len here others le is chained =
           (item_in (without_item bs i) i k j x below (subst (λ (c : Chains). to c j x) is held));
     }
 
-pub IsKept-moved : (s s' : Side) (i k : ℕ) → IsKept s → i < length s.lines.lists → is_active s.active.items i ≡ true → IsChained s'.lines → length s'.lines.lists ≡ length s.lines.lists → length (list_at s'.lines i) ≡ k → ((x : ℕ) → x ≢ i → length (list_at s'.lines x) ≡ length (list_at s.lines x)) → k < length s.buckets.lists → s'.counts.items ≡ set s.counts.items i k → s'.active.items ≡ s.active.items → s'.buckets ≡ with_item (without_item s.buckets i) i k → IsChained s'.buckets → IsKept s'
+pub IsKept-moved : (s s' : Side) (i k : ℕ) → IsKept s → i < length s.lines.lists → is_active s.active.items i ≡ true → IsChained s'.lines
+    → length s'.lines.lists ≡ length s.lines.lists → length (list_at s'.lines i) ≡ k
+    → ((x : ℕ) → x ≢ i → length (list_at s'.lines x) ≡ length (list_at s.lines x)) → k < length s.buckets.lists → s'.counts.items ≡ set s.counts.items i k
+    → s'.active.items ≡ s.active.items → s'.buckets ≡ with_item (without_item s.buckets i) i k → IsChained s'.buckets → IsKept s'
 IsKept-moved s s' i k h lt act chained len here others le counts active is bucket_chained =
     record {
       chained = chained;
@@ -126,7 +133,8 @@ IsKept-moved s s' i k h lt act chained len here others le counts active is bucke
           (λ (ne : x ≢ i). ap (λ (cs : List ℕ). get_or cs x 0) counts ∙ get_or-set_other s.counts.items i x k 0 ne ∙ h.counts x ∙ sym (others x ne))
           (cases_eq x i);
       active_len = ap length active ∙ h.active_len ∙ sym len;
-      bucketed = subst (λ (bools : List Bool). IsBucketed s'.lines bools s'.buckets) (sym active) (IsBucketed-moved s.lines s'.lines s.active.items s.buckets s'.buckets i k h.bucketed act len here others le is bucket_chained);
+      bucketed = subst (λ (bools : List Bool). IsBucketed s'.lines bools s'.buckets) (sym active)
+          (IsBucketed-moved s.lines s'.lines s.active.items s.buckets s'.buckets i k h.bucketed act len here others le is bucket_chained);
     }
 
 -- the count of a line that was read, changed and read again
@@ -134,7 +142,9 @@ module _ (s s' : Side) (i l was k : ℕ) (h : IsKept s) (lt : i < length s.lines
   was_count : was ≡ length (list_at s.lines i)
   was_count = get_or_read s.counts.items i was (omega (arith, h.counts_len)) read 0 ∙ h.counts i
 
-  pub IsKept-linked : length (list_at s.lines i) < length s.lines.lists → s'.lines ≡ with_item s.lines l i → IsChained s'.lines → k ≡ get_or (set s.counts.items i (was + 1)) i k → s'.counts.items ≡ set s.counts.items i (was + 1) → s'.active.items ≡ s.active.items → s'.buckets ≡ with_item (without_item s.buckets i) i k → IsChained s'.buckets → IsKept s'
+  pub IsKept-linked : length (list_at s.lines i) < length s.lines.lists → s'.lines ≡ with_item s.lines l i → IsChained s'.lines
+      → k ≡ get_or (set s.counts.items i (was + 1)) i k → s'.counts.items ≡ set s.counts.items i (was + 1) → s'.active.items ≡ s.active.items
+      → s'.buckets ≡ with_item (without_item s.buckets i) i k → IsChained s'.buckets → IsKept s'
   IsKept-linked fits is chained again counts active buckets bucket_chained =
       let k_is : k ≡ was + 1 = again ∙ get_or-set_same s.counts.items i (was + 1) k (omega (arith, h.counts_len)) in
       let here : length (list_at s'.lines i) ≡ k = ap (λ (c : Chains). length (list_at c i)) is ∙ length-with_item_same s.lines l i lt ∙ omega (arith, was_count, k_is) in
@@ -142,7 +152,9 @@ module _ (s s' : Side) (i l was k : ℕ) (h : IsKept s) (lt : i < length s.lines
       (λ x ne. ap (λ (c : Chains). length (list_at c x)) is ∙ ap length (list_at-with_item_other s.lines l i x ne))
       (omega (arith, was_count, k_is, h.bucketed.lists)) (counts ∙ ap (set s.counts.items i) (sym k_is)) active buckets bucket_chained
 
-  pub IsKept-unlinked : Contains (list_at s.lines i) l → length (list_at s.lines i) < length s.buckets.lists → s'.lines ≡ without_item s.lines l → IsChained s'.lines → k ≡ get_or (set s.counts.items i (was - 1)) i k → s'.counts.items ≡ set s.counts.items i (was - 1) → s'.active.items ≡ s.active.items → s'.buckets ≡ with_item (without_item s.buckets i) i k → IsChained s'.buckets → IsKept s'
+  pub IsKept-unlinked : Contains (list_at s.lines i) l → length (list_at s.lines i) < length s.buckets.lists → s'.lines ≡ without_item s.lines l
+      → IsChained s'.lines → k ≡ get_or (set s.counts.items i (was - 1)) i k → s'.counts.items ≡ set s.counts.items i (was - 1)
+      → s'.active.items ≡ s.active.items → s'.buckets ≡ with_item (without_item s.buckets i) i k → IsChained s'.buckets → IsKept s'
   IsKept-unlinked held fits is chained again counts active buckets bucket_chained =
       let k_is : k ≡ was - 1 = again ∙ get_or-set_same s.counts.items i (was - 1) k (omega (arith, h.counts_len)) in
       let less = length-without_item_same s.lines l i h.chained held in
@@ -154,10 +166,12 @@ module _ (s s' : Side) (i l was k : ℕ) (h : IsKept s) (lt : i < length s.lines
 -- a line that holds an item is a line
 pub line_within : (ch : Chains) (i l : ℕ) → Contains (list_at ch i) l → i < length ch.lists
 line_within ch i l held =
-    ⊎_elim (λ (lt : i < length ch.lists). lt) (λ (le : length ch.lists ≤ i). absurd (nothing_contains l (subst (λ xs. Contains xs l) (get_or_past ch.lists i [] le) held))) (cases_lt i (length ch.lists))
+    ⊎_elim (λ (lt : i < length ch.lists). lt) (λ (le : length ch.lists ≤ i). absurd
+    (nothing_contains l (subst (λ xs. Contains xs l) (get_or_past ch.lists i [] le) held))) (cases_lt i (length ch.lists))
 
 -- an empty line out of its bucket
-pub IsKept-retired : (s s' : Side) (i : ℕ) → IsKept s → i < length s.lines.lists → s'.lines ≡ s.lines → s'.counts.items ≡ s.counts.items → s'.active.items ≡ set s.active.items i false → s'.buckets ≡ without_item s.buckets i → IsChained s'.buckets → IsKept s'
+pub IsKept-retired : (s s' : Side) (i : ℕ) → IsKept s → i < length s.lines.lists → s'.lines ≡ s.lines → s'.counts.items ≡ s.counts.items
+    → s'.active.items ≡ set s.active.items i false → s'.buckets ≡ without_item s.buckets i → IsChained s'.buckets → IsKept s'
 IsKept-retired s s' i h lt lines counts active is chained =
     let within : i < length s.active.items = omega (arith, h.active_len) in
     let off : is_active s'.active.items i ≡ false = ap (λ (bools : List Bool). is_active bools i) active ∙ get_or-set_same s.active.items i false false within in
@@ -175,7 +189,9 @@ IsKept-retired s s' i h lt lines counts active is chained =
         chained = chained;
         placed = λ x on. ⊎_elim
             (λ (e : x ≡ i). absurd (both_ways _ off (sym (ap (is_active s'.active.items) e) ∙ on)))
-            (λ (ne : x ≢ i). subst (λ (c : Chains). Contains (list_at c (length (list_at s'.lines x))) x) (sym is) (left_held s.buckets i _ x ne (subst (λ (m : ℕ). Contains (list_at s.buckets m) x) (sym (same x)) (h.bucketed.placed x (sym (other x ne) ∙ on)))))
+            (λ (ne : x ≢ i). subst (λ (c : Chains). Contains (list_at c (length (list_at s'.lines x))) x) (sym is)
+            (left_held s.buckets i _ x ne (subst (λ (m : ℕ). Contains (list_at s.buckets m) x) (sym (same x))
+            (h.bucketed.placed x (sym (other x ne) ∙ on)))))
             (cases_eq x i);
         counted = λ x j held.
             let was = left_in s.buckets i j x (subst (λ (c : Chains). Contains (list_at c j) x) is held) in
@@ -189,11 +205,13 @@ pub placed_from : (s : Side) (i : ℕ) → IsKept s → length (list_at s.lines 
 placed_from s i h lt on = (length (list_at s.lines i), lt, h.bucketed.placed i on)
 
 -- the same lists for more links
-pub IsKept-grown : (s s' : Side) → IsKept s → s'.lines.lists ≡ s.lines.lists → IsChained s'.lines → s'.counts.items ≡ s.counts.items → s'.active.items ≡ s.active.items → s'.buckets ≡ s.buckets → IsKept s'
+pub IsKept-grown : (s s' : Side) → IsKept s → s'.lines.lists ≡ s.lines.lists → IsChained s'.lines → s'.counts.items ≡ s.counts.items
+    → s'.active.items ≡ s.active.items → s'.buckets ≡ s.buckets → IsKept s'
 IsKept-grown s s' h lists chained counts active buckets =
     let same = λ (x : ℕ). ap (λ (ls : List (List ℕ)). length (get_or ls x [])) lists in
     let lens = ap (λ (ls : List (List ℕ)). length ls) lists in
-    let whole : IsBucketed s.lines s'.active.items s'.buckets = subst (λ (bools : List Bool). IsBucketed s.lines bools s'.buckets) (sym active) (subst (λ (c : Chains). IsBucketed s.lines s.active.items c) (sym buckets) h.bucketed) in
+    let whole : IsBucketed s.lines s'.active.items s'.buckets = subst (λ (bools : List Bool). IsBucketed s.lines bools s'.buckets) (sym active)
+    (subst (λ (c : Chains). IsBucketed s.lines s.active.items c) (sym buckets) h.bucketed) in
     record {
       chained = chained;
       counts_len = ap length counts ∙ h.counts_len ∙ sym lens;
@@ -222,7 +240,8 @@ IsDistinct-nil = tt
 
 pub empty_lists : (count k : ℕ) → get_or (replicate {A = List ℕ} count []) k [] ≡ []
 empty_lists count k =
-    ⊎_elim (λ (lt : k < count). get_or-replicate count k [] [] lt) (λ (le : count ≤ k). get_or_past (replicate {A = List ℕ} count []) k [] (omega (arith, length-replicate {A = List ℕ} count []))) (cases_lt k count)
+    ⊎_elim (λ (lt : k < count). get_or-replicate count k [] [] lt) (λ (le : count ≤ k).
+    get_or_past (replicate {A = List ℕ} count []) k [] (omega (arith, length-replicate {A = List ℕ} count []))) (cases_lt k count)
 
 pub HasFirst-none : (n count : ℕ) (ch : Chains) → count ≡ n + 1 → ch ≡ record { items = n; lists = replicate count [] } → HasFirst n 0 ch
 HasFirst-none n count ch len is =
@@ -247,7 +266,9 @@ HasFirst-more n i ch ch' h is chained =
       items = ap (λ (c : Chains). c.items) is ∙ h.items;
       lists = ap (λ (c : Chains). length c.lists) is ∙ length-set ch.lists 0 _ ∙ h.lists;
       chained = chained;
-      held = λ x lt. subst (λ (c : Chains). Contains (list_at c 0) x) (sym is) (⊎_elim (λ (e : x ≡ i). subst (λ (y : ℕ). Contains (list_at (with_item ch i 0) 0) y) (sym e) (item_held ch i 0 some)) (λ (ne : x ≢ i). others_held ch i 0 0 x some (h.held x (omega arith))) (cases_eq x i));
+      held = λ x lt. subst (λ (c : Chains). Contains (list_at c 0) x) (sym is) (⊎_elim
+          (λ (e : x ≡ i). subst (λ (y : ℕ). Contains (list_at (with_item ch i 0) 0) y) (sym e) (item_held ch i 0 some))
+          (λ (ne : x ≢ i). others_held ch i 0 0 x some (h.held x (omega arith))) (cases_eq x i));
       only = λ x k held. ⊎_elim
           (λ (new : (x ≡ i) × (k ≡ 0)). (omega (arith, new.0), new.1))
           (λ (old : Contains (list_at ch k) x). (omega (arith, (h.only x k old).0), (h.only x k old).1))
@@ -267,12 +288,14 @@ IsChained-none items count ch is =
       apart = λ c d i in_c in_d. absurd (nothing_contains i (subst (λ xs. Contains xs i) (no c) in_c));
     }
 
-pub IsKept-new : (n links : ℕ) (s : Side) → s.lines ≡ record { items = links; lists = replicate n [] } → s.counts.items ≡ replicate n 0 → s.active.items ≡ replicate n true → HasFirst n n s.buckets → IsKept s
+pub IsKept-new : (n links : ℕ) (s : Side) → s.lines ≡ record { items = links; lists = replicate n [] } → s.counts.items ≡ replicate n 0
+    → s.active.items ≡ replicate n true → HasFirst n n s.buckets → IsKept s
 IsKept-new n links s is counts active h =
     let no : (x : ℕ) → list_at s.lines x ≡ [] = λ x. ap (λ (c : Chains). list_at c x) is ∙ empty_lists n x in
     let lens : length s.lines.lists ≡ n = ap (λ (c : Chains). length c.lists) is ∙ length-replicate {A = List ℕ} n [] in
     let within : (x : ℕ) → is_active s.active.items x ≡ true → x < n =
-    λ x on. ⊎_elim (λ (lt : x < n). lt) (λ (le : n ≤ x). absurd (both_ways _ (ap (λ (bools : List Bool). is_active bools x) active ∙ get_or_past (replicate {A = Bool} n true) x false (omega (arith, length-replicate {A = Bool} n true))) on)) (cases_lt x n) in
+    λ x on. ⊎_elim (λ (lt : x < n). lt) (λ (le : n ≤ x). absurd (both_ways _ (ap (λ (bools : List Bool). is_active bools x) active
+    ∙ get_or_past (replicate {A = Bool} n true) x false (omega (arith, length-replicate {A = Bool} n true))) on)) (cases_lt x n) in
     let zeros : (x : ℕ) → get_or (replicate n 0) x 0 ≡ 0 =
     λ x. ⊎_elim (λ (lt : x < n). get_or-replicate n x 0 0 lt) (λ (le : n ≤ x). get_or_past (replicate {A = ℕ} n 0) x 0 (omega (arith, length-replicate {A = ℕ} n 0))) (cases_lt x n) in
     record {

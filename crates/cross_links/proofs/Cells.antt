@@ -38,7 +38,8 @@ find_in a i (k ∷ ks) =
     (λ (e : row_of a k ≡ i). inl (k, head_contains k ks, e))
     (λ (ne : row_of a k ≢ i). ⊎_elim
     (λ (there : (l : ℕ) × Contains ks l × (row_of a l ≡ i)). inl (there.0, tail_contains k ks there.0 there.1, there.2))
-    (λ (no : (l : ℕ) → Contains ks l → row_of a l ≢ i). inr (λ l held. ⊎_elim (λ (e : l ≡ k). subst (λ (x : ℕ). row_of a x ≢ i) (sym e) ne) (λ (later : Contains ks l). no l later) (cons_cases k ks l held)))
+    (λ (no : (l : ℕ) → Contains ks l → row_of a l ≢ i). inr (λ l held. ⊎_elim (λ (e : l ≡ k). subst (λ (x : ℕ). row_of a x ≢ i) (sym e) ne)
+    (λ (later : Contains ks l). no l later) (cons_cases k ks l held)))
     (find_in a i ks))
     (cases_eq (row_of a k) i)
 
@@ -55,8 +56,11 @@ module _ (a : Matrix) (h : IsMatrix a) where
   cell-is l e is =
       let held : Contains (col a e.1) l = subst (λ (d : ℕ). Contains (col a d) l) (ap col_in is) (h.cols.held l (some_from _ e is)) in
       let f : ℕ → ℕ × ℚ = λ k. pair_in (entry_at a k) in
-      let row_is : (k : ℕ) → Contains (col a e.1) k → (f k).0 ≡ row_of a k = λ k in_col. let some = some_entry (entry_at a k) (h.cols.only e.1 k in_col).0 in ap (λ (o : Option Entry). (pair_in o).0) some.1 ∙ sym (ap row_in some.1) in
-      let one : (k : ℕ) → Contains (col a e.1) k → (f k).0 ≡ (f l).0 → k ≡ l = λ k in_col same. h.apart k l (h.cols.only e.1 k in_col).0 (some_from _ e is) (sym (row_is k in_col) ∙ same ∙ row_is l held) ((h.cols.only e.1 k in_col).1 ∙ sym (ap col_in is)) in
+      let row_is : (k : ℕ) → Contains (col a e.1) k → (f k).0 ≡ row_of a k = λ k in_col. let some = some_entry (entry_at a k) (h.cols.only e.1 k in_col).0 in
+      ap (λ (o : Option Entry). (pair_in o).0) some.1 ∙ sym (ap row_in some.1) in
+      let one : (k : ℕ) → Contains (col a e.1) k → (f k).0 ≡ (f l).0 → k ≡ l = λ k in_col same.
+      h.apart k l (h.cols.only e.1 k in_col).0 (some_from _ e is) (sym (row_is k in_col) ∙ same ∙ row_is l held)
+      ((h.cols.only e.1 k in_col).1 ∙ sym (ap col_in is)) in
       let found = value_at-held f (col a e.1) l held one in
       ap (λ (o : Option ℚ). unwrap_or o zero_ℚ) (ap (value_at (col_pairs a e.1)) (sym (ap (λ (o : Option Entry). (pair_in o).0) is)) ∙ found) ∙ ap (λ (o : Option Entry). (pair_in o).1) is
 
@@ -87,7 +91,8 @@ cell-same a b h k i p same =
     let some = some_entry (entry_at a has.0) has.1 in
     let in_row : some.0.0 ≡ i = sym (ap row_in some.1) ∙ has.2 in
     let in_col : some.0.1 ≡ p = sym (ap col_in some.1) ∙ has.3 in
-    let value : (x : Matrix) → IsMatrix x → entry_at x has.0 ≡ Some some.0 → cell x i p ≡ some.0.2 = λ x m is. sym (ap (λ (r : ℕ). cell x r p) in_row) ∙ sym (ap (cell x some.0.0) in_col) ∙ cell-is x m has.0 some.0 is in
+    let value : (x : Matrix) → IsMatrix x → entry_at x has.0 ≡ Some some.0 → cell x i p ≡ some.0.2 = λ x m is. sym (ap (λ (r : ℕ). cell x r p) in_row)
+    ∙ sym (ap (cell x some.0.0) in_col) ∙ cell-is x m has.0 some.0 is in
     value b k ((same has.0 some.0 in_row in_col).0 some.1) ∙ sym (value a h some.1))
     (λ (absent : Has a i p → ⊥).
     let none : Has b i p → ⊥ = λ has.
@@ -103,7 +108,8 @@ cell-same a b h k i p same =
 pub left_entry : (ls : List ℕ) (a : Matrix) (k : ℕ) → (Contains ls k → ⊥) → entry_at (without_entries ls a) k ≡ entry_at a k
 left_entry [] a k other = refl
 left_entry (l ∷ ls) a k other =
-    left_entry ls (without_entry a l) k (λ held. other (tail_contains l ls k held)) ∙ get_or-set_other a.entries l k None None (λ e. other (subst (λ (x : ℕ). Contains (l ∷ ls) x) (sym e) (head_contains l ls)))
+    left_entry ls (without_entry a l) k (λ held. other (tail_contains l ls k held))
+    ∙ get_or-set_other a.entries l k None None (λ e. other (subst (λ (x : ℕ). Contains (l ∷ ls) x) (sym e) (head_contains l ls)))
 
 no_entry : (a : Matrix) (l : ℕ) → entry_at (without_entry a l) l ≡ None
 no_entry a l =
@@ -169,7 +175,9 @@ module _ (a b : Matrix) (h : IsMatrix a) (k : IsMatrix b) where
   module _ (l : ℕ) (e : Entry) (v : ℚ) (here : entry_at a l ≡ Some e) (is : b ≡ with_value a l v) where
     now_at : entry_at b l ≡ Some (e.0, e.1, v)
     now_at =
-        ap (λ (x : Matrix). entry_at x l) is ∙ get_or-set_same a.entries l (Some (row_of a l, col_of a l, v)) None (link_within a.entries l (some_from _ e here)) ∙ ap (λ (r : ℕ). Some (r, col_of a l, v)) (ap row_in here) ∙ ap (λ (c : ℕ). Some (e.0, c, v)) (ap col_in here)
+        ap (λ (x : Matrix). entry_at x l) is ∙ get_or-set_same a.entries l (Some (row_of a l, col_of a l, v)) None
+        (link_within a.entries l (some_from _ e here)) ∙ ap (λ (r : ℕ). Some (r, col_of a l, v)) (ap row_in here)
+        ∙ ap (λ (c : ℕ). Some (e.0, c, v)) (ap col_in here)
 
     pub cell-set : cell b e.0 e.1 ≡ v
     cell-set = cell-is b k l (e.0, e.1, v) now_at
@@ -178,7 +186,8 @@ module _ (a b : Matrix) (h : IsMatrix a) (k : IsMatrix b) where
     cell-set_other i p other =
         cell_apart l i p (λ x ne. ap (λ (m : Matrix). entry_at m x) is ∙ get_or-set_other a.entries l x (Some (row_of a l, col_of a l, v)) None ne) (λ d at in_row in_col. ⊎_elim
         (λ (was : entry_at a l ≡ Some d). let same : d ≡ e = cc in other (sym in_row ∙ ap (λ (x : Entry). x.0) same, sym in_col ∙ ap (λ (x : Entry). x.1) same))
-        (λ (now : entry_at b l ≡ Some d). let same : d ≡ (e.0, e.1, v) = (let set_to : entry_at b l ≡ Some (e.0, e.1, v) = now_at in cc) in other (sym in_row ∙ ap (λ (x : Entry). x.0) same, sym in_col ∙ ap (λ (x : Entry). x.1) same))
+        (λ (now : entry_at b l ≡ Some d). let same : d ≡ (e.0, e.1, v) = (let set_to : entry_at b l ≡ Some (e.0, e.1, v) = now_at in cc) in
+        other (sym in_row ∙ ap (λ (x : Entry). x.0) same, sym in_col ∙ ap (λ (x : Entry). x.1) same))
         at)
 
   -- an entry less
@@ -248,10 +257,14 @@ mapped_held key (k ∷ ks) l held =
     (λ (later : Contains ks l). tail_contains (key k) (map key ks) (key l) (mapped_held key ks l later))
     (cons_cases k ks l held)
 
-count_same : (key : ℕ → ℕ) (ls qs : List ℕ) → IsDistinct eqb ls → ((l k : ℕ) → Contains ls l → Contains ls k → key l ≡ key k → l ≡ k) → IsDistinct eqb qs → ((l : ℕ) → Contains ls l → Contains qs (key l)) → ((q : ℕ) → Contains qs q → (l : ℕ) × Contains ls l × (key l ≡ q)) → length ls ≡ length qs
+count_same : (key : ℕ → ℕ) (ls qs : List ℕ) → IsDistinct eqb ls → ((l k : ℕ) → Contains ls l → Contains ls k → key l ≡ key k → l ≡ k) → IsDistinct eqb qs
+    → ((l : ℕ) → Contains ls l → Contains qs (key l)) → ((q : ℕ) → Contains qs q → (l : ℕ) × Contains ls l × (key l ≡ q)) → length ls ≡ length qs
 count_same key ls qs once one distinct forth back =
-    let to = length-le_from_is_member nat_eq_equiv (map key ls) qs (distinct_mapped key ls once one) (λ q has_q. let from = mapped_from key ls q (Contains-from_has q (map key ls) has_q) in has-from_Contains q qs (subst (λ (x : ℕ). Contains qs x) from.2 (forth from.0 from.1))) in
-    let fro = length-le_from_is_member nat_eq_equiv qs (map key ls) distinct (λ q has_q. let from = back q (Contains-from_has q qs has_q) in has-from_Contains q (map key ls) (subst (λ (x : ℕ). Contains (map key ls) x) from.2 (mapped_held key ls from.0 from.1))) in
+    let to = length-le_from_is_member nat_eq_equiv (map key ls) qs (distinct_mapped key ls once one)
+    (λ q has_q. let from = mapped_from key ls q (Contains-from_has q (map key ls) has_q) in
+    has-from_Contains q qs (subst (λ (x : ℕ). Contains qs x) from.2 (forth from.0 from.1))) in
+    let fro = length-le_from_is_member nat_eq_equiv qs (map key ls) distinct (λ q has_q. let from = back q (Contains-from_has q qs has_q) in
+    has-from_Contains q (map key ls) (subst (λ (x : ℕ). Contains (map key ls) x) from.2 (mapped_held key ls from.0 from.1))) in
     omega (arith, to, fro, length-map ls key)
 
 -- the count of a row is the number of the columns in which it has an entry, and the same of a column
@@ -276,7 +289,8 @@ module _ (a : Matrix) (h : IsMatrix a) where
 pub HasNoZero-filled : (a b : Matrix) (l : ℕ) (e : Entry) → HasNoZero a → IsFilled a l e b → e.2 ≢ zero_ℚ → HasNoZero b
 HasNoZero-filled a b l e no_zero f some k d is =
     ⊎_elim
-    (λ (here : k ≡ l). let same : d ≡ e = (let now : entry_at b l ≡ Some d = ap (entry_at b) (sym here) ∙ is in let was = f.entry in cc) in λ (z : d.2 ≡ zero_ℚ). some (sym (ap (λ (x : Entry). x.2) same) ∙ z))
+    (λ (here : k ≡ l). let same : d ≡ e = (let now : entry_at b l ≡ Some d = ap (entry_at b) (sym here) ∙ is in let was = f.entry in cc) in
+    λ (z : d.2 ≡ zero_ℚ). some (sym (ap (λ (x : Entry). x.2) same) ∙ z))
     (λ (ne : k ≢ l). no_zero k d (sym (f.others k ne) ∙ is))
     (cases_eq k l)
 
@@ -284,7 +298,8 @@ pub HasNoZero-set : (a : Matrix) (l : ℕ) (v : ℚ) → HasNoZero a → v ≢ z
 HasNoZero-set a l v no_zero some link k d is =
     let new : Entry = (row_of a l, col_of a l, v) in
     ⊎_elim
-    (λ (here : k ≡ l). let same : d ≡ new = (let now : Some new ≡ Some d = sym (get_or-set_same a.entries l (Some new) None (link_within a.entries l link)) ∙ ap (entry_at (with_value a l v)) (sym here) ∙ is in cc) in λ (z : d.2 ≡ zero_ℚ). some (sym (ap (λ (x : Entry). x.2) same) ∙ z))
+    (λ (here : k ≡ l). let same : d ≡ new = (let now : Some new ≡ Some d = sym (get_or-set_same a.entries l (Some new) None (link_within a.entries l link))
+    ∙ ap (entry_at (with_value a l v)) (sym here) ∙ is in cc) in λ (z : d.2 ≡ zero_ℚ). some (sym (ap (λ (x : Entry). x.2) same) ∙ z))
     (λ (ne : k ≢ l). no_zero k d (sym (get_or-set_other a.entries l k (Some new) None ne) ∙ is))
     (cases_eq k l)
 

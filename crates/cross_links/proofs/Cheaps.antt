@@ -97,7 +97,9 @@ loose_from a c h h' before ok is lone held =
 
 module _ (a b : Matrix) (r c : ℕ) (h : Cheap) (ok : IsCheap a h) where
   -- row r and column c change
-  IsCheap-changed : (h' : Cheap) → b.size ≡ a.size → r < a.size → c < a.size → ((i : ℕ) → i ≢ r → row b i ≡ row a i) → ((d : ℕ) → d ≢ c → lone_row b d ≡ lone_row a d) → IfSome (lone_row b c) (λ i. i < a.size) → h'.singles ≡ set h.singles r (is_one (row b r)) → h'.lone ≡ placed (taken h.lone c (lone_row a c)) c (lone_row b c) → IsFlagged h' → IsCheap b h'
+  IsCheap-changed : (h' : Cheap) → b.size ≡ a.size → r < a.size → c < a.size → ((i : ℕ) → i ≢ r → row b i ≡ row a i)
+      → ((d : ℕ) → d ≢ c → lone_row b d ≡ lone_row a d) → IfSome (lone_row b c) (λ i. i < a.size) → h'.singles ≡ set h.singles r (is_one (row b r))
+      → h'.lone ≡ placed (taken h.lone c (lone_row a c)) c (lone_row b c) → IsFlagged h' → IsCheap b h'
   IsCheap-changed h' size r_lt c_lt rows cols after singles lone flagged =
       let mid = taken h.lone c (lone_row a c) in
       let end = placed mid c (lone_row b c) in
@@ -106,7 +108,8 @@ module _ (a b : Matrix) (r c : ℕ) (h : Cheap) (ok : IsCheap a h) where
       record {
         singles_len = omega (arith, ap length singles, length-set h.singles r (is_one (row b r)), ok.singles_len, size);
         singles = λ i. ap (λ (bools : List Bool). is_set bools i) singles ∙ ⊎_elim
-            (λ (e : i ≡ r). ap (is_set (set h.singles r (is_one (row b r)))) e ∙ get_or-set_same h.singles r (is_one (row b r)) false (omega (arith, ok.singles_len)) ∙ ap (λ (x : ℕ). is_one (row b x)) (sym e))
+            (λ (e : i ≡ r). ap (is_set (set h.singles r (is_one (row b r)))) e ∙ get_or-set_same h.singles r (is_one (row b r)) false
+            (omega (arith, ok.singles_len)) ∙ ap (λ (x : ℕ). is_one (row b x)) (sym e))
             (λ (ne : i ≢ r). get_or-set_other h.singles r i (is_one (row b r)) false ne ∙ ok.singles i ∙ ap is_one (sym (rows i ne)))
             (cases_eq i r);
         flagged = flagged;
@@ -128,9 +131,13 @@ module _ (a b : Matrix) (r c : ℕ) (h : Cheap) (ok : IsCheap a h) where
       }
 
   -- by the calls that follow the change
-  pub IsCheap-followed : (h1 h2 h3 : Cheap) (before after : Option ℕ) (single : Bool) → b.size ≡ a.size → r < a.size → c < a.size → ((i : ℕ) → i ≢ r → row b i ≡ row a i) → ((d : ℕ) → d ≢ c → lone_row b d ≡ lone_row a d) → IfSome after (λ i. i < b.size) → before ≡ lone_row a c → after ≡ lone_row b c → single ≡ is_one (row b r) → h1.lone ≡ taken h.lone c before → h1.singles ≡ h.singles → h2.lone ≡ placed h1.lone c after → h2.singles ≡ h1.singles → IsFlagged h2 → h3.singles ≡ set h2.singles r single → h3.lone ≡ h2.lone → h3.holders ≡ h2.holders → IsCheap b h3
+  pub IsCheap-followed : (h1 h2 h3 : Cheap) (before after : Option ℕ) (single : Bool) → b.size ≡ a.size → r < a.size → c < a.size
+      → ((i : ℕ) → i ≢ r → row b i ≡ row a i) → ((d : ℕ) → d ≢ c → lone_row b d ≡ lone_row a d) → IfSome after (λ i. i < b.size) → before ≡ lone_row a c
+      → after ≡ lone_row b c → single ≡ is_one (row b r) → h1.lone ≡ taken h.lone c before → h1.singles ≡ h.singles → h2.lone ≡ placed h1.lone c after
+      → h2.singles ≡ h1.singles → IsFlagged h2 → h3.singles ≡ set h2.singles r single → h3.lone ≡ h2.lone → h3.holders ≡ h2.holders → IsCheap b h3
   IsCheap-followed h1 h2 h3 before after single size r_lt c_lt rows lones below was now one lone1 singles1 lone2 singles2 flagged singles3 lone3 holders3 =
-      let lone : h3.lone ≡ placed (taken h.lone c (lone_row a c)) c (lone_row b c) = lone3 ∙ lone2 ∙ ap (λ (ch : Chains). placed ch c after) (lone1 ∙ ap (taken h.lone c) was) ∙ ap (placed (taken h.lone c (lone_row a c)) c) now in
+      let lone : h3.lone ≡ placed (taken h.lone c (lone_row a c)) c (lone_row b c) = lone3 ∙ lone2
+      ∙ ap (λ (ch : Chains). placed ch c after) (lone1 ∙ ap (taken h.lone c) was) ∙ ap (placed (taken h.lone c (lone_row a c)) c) now in
       let fits : IfSome (lone_row b c) (λ i. i < a.size) = subst (λ (o : Option ℕ). IfSome o (λ i. i < a.size)) now (subst (λ (n : ℕ). IfSome after (λ i. i < n)) size below) in
       let flags : IsFlagged h3 = record {
         len = omega (arith, flagged.len, ap (λ (ch : Chains). length ch.lists) lone3, ap (λ (bools : List Bool). length bools) holders3);
@@ -164,10 +171,12 @@ module _ (a b : Matrix) (l : ℕ) (e : Entry) (m : IsMatrix a) (f : IsFilled a l
 pub IsCheap-valued : (a b : Matrix) (l : ℕ) (v : ℚ) (h : Cheap) → IsCheap a h → IsLink a l → b ≡ with_value a l v → IsCheap b h
 IsCheap-valued a b l v h ok some is =
     let row_same : (k : ℕ) → row_in (entry_at b k) ≡ row_in (entry_at a k) = λ k. ap (λ (x : Matrix). row_in (entry_at x k)) is ∙ ⊎_elim
-    (λ (e : k ≡ l). ap (λ (x : ℕ). row_in (entry_at (with_value a l v) x)) e ∙ ap row_in (get_or-set_same a.entries l (Some (row_of a l, col_of a l, v)) None (link_within a.entries l some)) ∙ ap (row_of a) (sym e))
+    (λ (e : k ≡ l). ap (λ (x : ℕ). row_in (entry_at (with_value a l v) x)) e ∙ ap row_in
+    (get_or-set_same a.entries l (Some (row_of a l, col_of a l, v)) None (link_within a.entries l some)) ∙ ap (row_of a) (sym e))
     (λ (ne : k ≢ l). ap row_in (get_or-set_other a.entries l k (Some (row_of a l, col_of a l, v)) None ne))
     (cases_eq k l) in
-    IsCheap-same a b h ok (ap (λ (x : Matrix). x.size) is) (ap (λ (x : Matrix). x.rows) is) (λ c. ap (λ (x : Matrix). lone_in b.entries (col x c)) is ∙ lone_in-same a.entries b.entries (col a c) (λ k held. row_same k))
+    IsCheap-same a b h ok (ap (λ (x : Matrix). x.size) is) (ap (λ (x : Matrix). x.rows) is)
+    (λ c. ap (λ (x : Matrix). lone_in b.entries (col x c)) is ∙ lone_in-same a.entries b.entries (col a c) (λ k held. row_same k))
 
 -- nothing stands anywhere
 pub IsFlagged-new : (n : ℕ) (h : Cheap) → h.lone ≡ record { items = n; lists = replicate n [] } → n ≤ length h.holders → NoneSet h.holders → IsFlagged h
@@ -177,7 +186,8 @@ IsFlagged-new n h is len none = record {
   chained = IsChained-none n n h.lone is;
 }
 
-pub IsCheap-new : (n : ℕ) (a : Matrix) (h : Cheap) → a.size ≡ n → a.rows ≡ replicate n [] → a.cols ≡ replicate n [] → n ≤ length h.singles → NoneSet h.singles → h.lone ≡ record { items = n; lists = replicate n [] } → IsFlagged h → IsCheap a h
+pub IsCheap-new : (n : ℕ) (a : Matrix) (h : Cheap) → a.size ≡ n → a.rows ≡ replicate n [] → a.cols ≡ replicate n [] → n ≤ length h.singles → NoneSet h.singles
+    → h.lone ≡ record { items = n; lists = replicate n [] } → IsFlagged h → IsCheap a h
 IsCheap-new n a h size rows cols len none is flagged = record {
   singles_len = omega (arith, size, len);
   singles = λ r. none r ∙ ap is_one (sym (ap (λ (ls : List (List ℕ)). line ls r) rows ∙ empty_lists n r));
@@ -189,14 +199,16 @@ IsCheap-new n a h size rows cols len none is flagged = record {
 }
 
 -- a column is taken out of the list of row r
-pub IsFlagged-taken : (h h' : Cheap) (c r : ℕ) (left : Bool) → IsFlagged h → Contains (list_at h.lone r) c → h'.lone ≡ without_item h.lone c → IsChained h'.lone → h'.holders ≡ set h.holders r left → left ≡ has_some (list_at h'.lone r) → IsFlagged h'
+pub IsFlagged-taken : (h h' : Cheap) (c r : ℕ) (left : Bool) → IsFlagged h → Contains (list_at h.lone r) c → h'.lone ≡ without_item h.lone c → IsChained h'.lone
+    → h'.holders ≡ set h.holders r left → left ≡ has_some (list_at h'.lone r) → IsFlagged h'
 IsFlagged-taken h h' c r left ok held is chained holders here =
     let within : r < length h.holders = omega (arith, ok.len, line_within h.lone r c held) in
     record {
       len = omega (arith, ok.len, ap (λ (ch : Chains). length ch.lists) is, length-map h.lone.lists (without c), ap (λ (bools : List Bool). length bools) holders, length-set h.holders r left);
       flags = λ i. ap (λ (bools : List Bool). is_set bools i) holders ∙ ⊎_elim
           (λ (e : i ≡ r). ap (is_set (set h.holders r left)) e ∙ get_or-set_same h.holders r left false within ∙ here ∙ ap (λ (x : ℕ). has_some (list_at h'.lone x)) (sym e))
-          (λ (ne : i ≢ r). get_or-set_other h.holders r i left false ne ∙ ok.flags i ∙ ap has_some (sym (ap (λ (ch : Chains). list_at ch i) is ∙ list_at-without_other h.lone c r i ok.chained held ne)))
+          (λ (ne : i ≢ r). get_or-set_other h.holders r i left false ne ∙ ok.flags i
+          ∙ ap has_some (sym (ap (λ (ch : Chains). list_at ch i) is ∙ list_at-without_other h.lone c r i ok.chained held ne)))
           (cases_eq i r);
       chained = chained;
     }

@@ -67,7 +67,8 @@ unfolding IsDistinct
 distinct_cons x xs differ once = (differ, once)
 
 -- and fewer, where a number names none of them
-count_room : (key : ℕ → ℕ) (n c : ℕ) (ls : List ℕ) → IsDistinct eqb ls → ((l k : ℕ) → Contains ls l → Contains ls k → key l ≡ key k → l ≡ k) → ((l : ℕ) → Contains ls l → key l < n) → c < n → ((l : ℕ) → Contains ls l → c ≢ key l) → length ls < n
+count_room : (key : ℕ → ℕ) (n c : ℕ) (ls : List ℕ) → IsDistinct eqb ls → ((l k : ℕ) → Contains ls l → Contains ls k → key l ≡ key k → l ≡ k)
+    → ((l : ℕ) → Contains ls l → key l < n) → c < n → ((l : ℕ) → Contains ls l → c ≢ key l) → length ls < n
 count_room key n c ls once one below lt none =
     let all = All-cons (λ q. q < n) c (map key ls) lt (all_mapped key n ls below) in
     let whole = distinct_cons c (map key ls) (differ_mapped c key ls none) (distinct_mapped key ls once one) in
@@ -87,7 +88,9 @@ module _ (n : ℕ) (es : List (Option Entry)) (line_in : Option Entry → ℕ) (
       (bool_cases (is_active active (line_in (at_link es l))))
 
   -- the same links in the same lines
-  pub IsSide-same : (es' : List (Option Entry)) → ((l : ℕ) → IsSome (at_link es' l) → IsSome (at_link es l)) → ((l : ℕ) → IsSome (at_link es l) → IsSome (at_link es' l)) → ((l : ℕ) → line_in (at_link es' l) ≡ line_in (at_link es l)) → IsSide n es' line_in lines active
+  pub IsSide-same : (es' : List (Option Entry)) → ((l : ℕ) → IsSome (at_link es' l) → IsSome (at_link es l))
+      → ((l : ℕ) → IsSome (at_link es l) → IsSome (at_link es' l)) → ((l : ℕ) → line_in (at_link es' l) ≡ line_in (at_link es l))
+      → IsSide n es' line_in lines active
   IsSide-same es' back forth same = record {
     lines_len = h.lines_len;
     active_len = h.active_len;
@@ -108,7 +111,10 @@ module _ (n : ℕ) (es : List (Option Entry)) (line_in : Option Entry → ℕ) (
   }
 
 -- an entry comes to a free link, at the end of a line
-pub IsSide-put : (n : ℕ) (es es' : List (Option Entry)) (line_in : Option Entry → ℕ) (ch ch' : Chains) (active active' : List Bool) (l i : ℕ) (e : Entry) → IsSide n es line_in ch.lists active → at_link es l ≡ None → at_link es' l ≡ Some e → ((k : ℕ) → k ≢ l → at_link es' k ≡ at_link es k) → line_in (Some e) ≡ i → i < n → is_active active i ≡ true → active' ≡ active → ch' ≡ with_item ch l i → IsChained ch' → IsSide n es' line_in ch'.lists active'
+pub IsSide-put : (n : ℕ) (es es' : List (Option Entry)) (line_in : Option Entry → ℕ) (ch ch' : Chains) (active active' : List Bool) (l i : ℕ) (e : Entry)
+    → IsSide n es line_in ch.lists active → at_link es l ≡ None → at_link es' l ≡ Some e → ((k : ℕ) → k ≢ l → at_link es' k ≡ at_link es k)
+    → line_in (Some e) ≡ i → i < n → is_active active i ≡ true → active' ≡ active → ch' ≡ with_item ch l i → IsChained ch'
+    → IsSide n es' line_in ch'.lists active'
 IsSide-put n es es' line_in ch ch' active active' l i e h free here others in_i lt on same is chained =
     let within : i < length ch.lists = omega (arith, h.lines_len) in
     let lies : line_in (at_link es' l) ≡ i = ap line_in here ∙ in_i in
@@ -117,8 +123,10 @@ IsSide-put n es es' line_in ch ch' active active' l i e h free here others in_i 
       lines_len = ap (λ (c : Chains). length c.lists) is ∙ length-set ch.lists i _ ∙ h.lines_len;
       active_len = ap length same ∙ h.active_len;
       held = λ k some. ⊎_elim
-          (λ (eq : k ≡ l). subst (λ (x : ℕ). to ch' (line_in (at_link es' x)) x) (sym eq) (subst (λ (j : ℕ). to ch' j l) (sym lies) (subst (λ (c : Chains). to c i l) (sym is) (item_held ch l i within))))
-          (λ (ne : k ≢ l). subst (λ (j : ℕ). to ch' j k) (sym (ap line_in (others k ne))) (subst (λ (c : Chains). to c (line_in (at_link es k)) k) (sym is) (others_held ch l i _ k within (h.held k (subst IsSome (others k ne) some)))))
+          (λ (eq : k ≡ l). subst (λ (x : ℕ). to ch' (line_in (at_link es' x)) x) (sym eq)
+          (subst (λ (j : ℕ). to ch' j l) (sym lies) (subst (λ (c : Chains). to c i l) (sym is) (item_held ch l i within))))
+          (λ (ne : k ≢ l). subst (λ (j : ℕ). to ch' j k) (sym (ap line_in (others k ne)))
+          (subst (λ (c : Chains). to c (line_in (at_link es k)) k) (sym is) (others_held ch l i _ k within (h.held k (subst IsSome (others k ne) some)))))
           (cases_eq k l);
       only = λ j k held. ⊎_elim
           (λ (new : (k ≡ l) × (j ≡ i)). (subst (λ (x : ℕ). IsSome (at_link es' x)) (sym new.0) (some_from _ e here), ap (λ (x : ℕ). line_in (at_link es' x)) new.0 ∙ lies ∙ sym new.1))
@@ -135,7 +143,9 @@ IsSide-put n es es' line_in ch ch' active active' l i e h free here others in_i 
     }
 
 -- an entry goes
-pub IsSide-taken : (n : ℕ) (es es' : List (Option Entry)) (line_in : Option Entry → ℕ) (ch ch' : Chains) (active active' : List Bool) (l : ℕ) → IsSide n es line_in ch.lists active → at_link es' l ≡ None → ((k : ℕ) → k ≢ l → at_link es' k ≡ at_link es k) → active' ≡ active → ch' ≡ without_item ch l → IsChained ch' → IsSide n es' line_in ch'.lists active'
+pub IsSide-taken : (n : ℕ) (es es' : List (Option Entry)) (line_in : Option Entry → ℕ) (ch ch' : Chains) (active active' : List Bool) (l : ℕ)
+    → IsSide n es line_in ch.lists active → at_link es' l ≡ None → ((k : ℕ) → k ≢ l → at_link es' k ≡ at_link es k) → active' ≡ active → ch' ≡ without_item ch l
+    → IsChained ch' → IsSide n es' line_in ch'.lists active'
 IsSide-taken n es es' line_in ch ch' active active' l h here others same is chained =
     let to = λ (c : Chains) (j x : ℕ). Contains (list_at c j) x in
     record {
@@ -143,7 +153,8 @@ IsSide-taken n es es' line_in ch ch' active active' l h here others same is chai
       active_len = ap length same ∙ h.active_len;
       held = λ k some.
           let ne : k ≢ l = λ eq. none_some _ (ap (at_link es') eq ∙ here) some in
-          subst (λ (j : ℕ). to ch' j k) (sym (ap line_in (others k ne))) (subst (λ (c : Chains). to c (line_in (at_link es k)) k) (sym is) (left_held ch l _ k ne (h.held k (subst IsSome (others k ne) some))));
+          subst (λ (j : ℕ). to ch' j k) (sym (ap line_in (others k ne))) (subst (λ (c : Chains). to c (line_in (at_link es k)) k) (sym is)
+          (left_held ch l _ k ne (h.held k (subst IsSome (others k ne) some))));
       only = λ j k held.
           let was = left_in ch l j k (subst (λ (c : Chains). to c j k) is held) in
           let then = h.only j k was.1 in

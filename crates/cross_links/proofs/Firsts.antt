@@ -58,7 +58,8 @@ module _ (a : Matrix) (m : IsMatrix a) (h : Cheap) (ok : IsCheap a h) where
         alone
 
   -- an entry of cost 0 in the first marked row, before the others of cost 0 there
-  pub first_covers : (r l : ℕ) → IsFirstMarked h r → row_of a l ≡ r → cost_of a l ≡ 0 → ((k : ℕ) → IsLink a k → row_of a k ≡ r → cost_of a k ≡ 0 → col_of a l ≤ col_of a k) → (k : ℕ) → IsLink a k → IsNotWorse a l k
+  pub first_covers : (r l : ℕ) → IsFirstMarked h r → row_of a l ≡ r → cost_of a l ≡ 0
+      → ((k : ℕ) → IsLink a k → row_of a k ≡ r → cost_of a k ≡ 0 → col_of a l ≤ col_of a k) → (k : ℕ) → IsLink a k → IsNotWorse a l k
   first_covers r l first in_r free least k some =
       ⊎_elim
       (λ (dear : 0 < cost_of a k). inl (omega (arith, free)))

@@ -70,7 +70,8 @@ module _ (a b : Matrix) (l : ℕ) (e : Entry) (h : IsMatrix a) (f : IsFilled a l
 
   pub pairs_filled : e.1 < length a.cols → col_pairs b e.1 ≡ col_pairs a e.1 ++ (e.0, e.2) ∷ []
   pairs_filled lt =
-      ap (map (λ x. pair_in (entry_at b x))) (col_filled lt) ∙ map-append (λ x. pair_in (entry_at b x)) (col a e.1) (l ∷ []) ∙ ap (λ (ps : List (ℕ × ℚ)). ps ++ pair_in (entry_at b l) ∷ []) (old_pairs e.1) ∙ ap (λ (o : Option Entry). col_pairs a e.1 ++ pair_in o ∷ []) f.entry
+      ap (map (λ x. pair_in (entry_at b x))) (col_filled lt) ∙ map-append (λ x. pair_in (entry_at b x)) (col a e.1) (l ∷ [])
+      ∙ ap (λ (ps : List (ℕ × ℚ)). ps ++ pair_in (entry_at b l) ∷ []) (old_pairs e.1) ∙ ap (λ (o : Option Entry). col_pairs a e.1 ++ pair_in o ∷ []) f.entry
 
 pub take_pair : (ps : List (ℕ × ℚ)) (k : ℕ) (pair : ℕ × ℚ) → slice_get ps k ≡ Some pair → take k ps ++ pair ∷ [] ≡ take (k + 1) ps
 take_pair ps k pair at =

@@ -81,11 +81,13 @@ module _ (t : Table) (h : IsHeld t) where
 
     pub row_in_bucket : (k : ℕ) → length (row (matrix_of t) (row_of (matrix_of t) l)) ≡ k → Contains (list_at t.rows.buckets k) (row_of (matrix_of t) l)
     row_in_bucket k is =
-        subst (λ (m : ℕ). Contains (list_at t.rows.buckets m) (row_of (matrix_of t) l)) is (h.rows.bucketed.placed _ (side_active t.size t.entries.items row_in t.rows.lines.lists t.rows.active.items h.matrix.rows l some))
+        subst (λ (m : ℕ). Contains (list_at t.rows.buckets m) (row_of (matrix_of t) l)) is
+        (h.rows.bucketed.placed _ (side_active t.size t.entries.items row_in t.rows.lines.lists t.rows.active.items h.matrix.rows l some))
 
     pub col_in_bucket : (k : ℕ) → length (col (matrix_of t) (col_of (matrix_of t) l)) ≡ k → Contains (list_at t.cols.buckets k) (col_of (matrix_of t) l)
     col_in_bucket k is =
-        subst (λ (m : ℕ). Contains (list_at t.cols.buckets m) (col_of (matrix_of t) l)) is (h.cols.bucketed.placed _ (side_active t.size t.entries.items col_in t.cols.lines.lists t.cols.active.items h.matrix.cols l some))
+        subst (λ (m : ℕ). Contains (list_at t.cols.buckets m) (col_of (matrix_of t) l)) is
+        (h.cols.bucketed.placed _ (side_active t.size t.entries.items col_in t.cols.lines.lists t.cols.active.items h.matrix.cols l some))
 
     pub some_row : 0 < length (row (matrix_of t) (row_of (matrix_of t) l))
     some_row = omega (arith, in_its_row.1)

@@ -50,7 +50,8 @@ module _ (es es' : List (Option Entry)) (l : ℕ) (o : Option Entry) (lt : l < l
   set_len = ap length is ∙ length-set es l o
 
 -- the value of an entry changes
-pub IsHeld-set : (t t' : Table) (l : ℕ) (e : Entry) (v : ℚ) → IsHeld t → at_link t.entries.items l ≡ Some e → t'.size ≡ t.size → t'.entries.items ≡ set t.entries.items l (Some (e.0, e.1, v)) → t'.free ≡ t.free → t'.rows ≡ t.rows → t'.cols ≡ t.cols → IsHeld t'
+pub IsHeld-set : (t t' : Table) (l : ℕ) (e : Entry) (v : ℚ) → IsHeld t → at_link t.entries.items l ≡ Some e → t'.size ≡ t.size
+    → t'.entries.items ≡ set t.entries.items l (Some (e.0, e.1, v)) → t'.free ≡ t.free → t'.rows ≡ t.rows → t'.cols ≡ t.cols → IsHeld t'
 IsHeld-set t t' l e v h here size is free rows cols =
     let es = t.entries.items in
     let es' = t'.entries.items in
@@ -58,10 +59,18 @@ IsHeld-set t t' l e v h here size is free rows cols =
     let now = set_here es es' l (Some (e.0, e.1, v)) within is in
     let there = set_there es es' l (Some (e.0, e.1, v)) within is in
     let len = set_len es es' l (Some (e.0, e.1, v)) within is in
-    let back : (k : ℕ) → IsSome (at_link es' k) → IsSome (at_link es k) = λ k some. ⊎_elim (λ (eq : k ≡ l). subst (λ (x : ℕ). IsSome (at_link es x)) (sym eq) (some_from _ e here)) (λ (ne : k ≢ l). subst IsSome (there k ne) some) (cases_eq k l) in
-    let forth : (k : ℕ) → IsSome (at_link es k) → IsSome (at_link es' k) = λ k some. ⊎_elim (λ (eq : k ≡ l). subst (λ (x : ℕ). IsSome (at_link es' x)) (sym eq) (some_from _ (e.0, e.1, v) now)) (λ (ne : k ≢ l). subst IsSome (sym (there k ne)) some) (cases_eq k l) in
-    let same_row : (k : ℕ) → row_in (at_link es' k) ≡ row_in (at_link es k) = λ k. ⊎_elim (λ (eq : k ≡ l). ap (λ (x : ℕ). row_in (at_link es' x)) eq ∙ ap row_in now ∙ sym (ap (λ (x : ℕ). row_in (at_link es x)) eq ∙ ap row_in here)) (λ (ne : k ≢ l). ap row_in (there k ne)) (cases_eq k l) in
-    let same_col : (k : ℕ) → col_in (at_link es' k) ≡ col_in (at_link es k) = λ k. ⊎_elim (λ (eq : k ≡ l). ap (λ (x : ℕ). col_in (at_link es' x)) eq ∙ ap col_in now ∙ sym (ap (λ (x : ℕ). col_in (at_link es x)) eq ∙ ap col_in here)) (λ (ne : k ≢ l). ap col_in (there k ne)) (cases_eq k l) in
+    let back : (k : ℕ) → IsSome (at_link es' k) → IsSome (at_link es k) = λ k some.
+    ⊎_elim (λ (eq : k ≡ l). subst (λ (x : ℕ). IsSome (at_link es x)) (sym eq) (some_from _ e here)) (λ (ne : k ≢ l). subst IsSome (there k ne) some)
+    (cases_eq k l) in
+    let forth : (k : ℕ) → IsSome (at_link es k) → IsSome (at_link es' k) = λ k some.
+    ⊎_elim (λ (eq : k ≡ l). subst (λ (x : ℕ). IsSome (at_link es' x)) (sym eq) (some_from _ (e.0, e.1, v) now))
+    (λ (ne : k ≢ l). subst IsSome (sym (there k ne)) some) (cases_eq k l) in
+    let same_row : (k : ℕ) → row_in (at_link es' k) ≡ row_in (at_link es k) = λ k.
+    ⊎_elim (λ (eq : k ≡ l). ap (λ (x : ℕ). row_in (at_link es' x)) eq ∙ ap row_in now ∙ sym (ap (λ (x : ℕ). row_in (at_link es x)) eq ∙ ap row_in here))
+    (λ (ne : k ≢ l). ap row_in (there k ne)) (cases_eq k l) in
+    let same_col : (k : ℕ) → col_in (at_link es' k) ≡ col_in (at_link es k) = λ k.
+    ⊎_elim (λ (eq : k ≡ l). ap (λ (x : ℕ). col_in (at_link es' x)) eq ∙ ap col_in now ∙ sym (ap (λ (x : ℕ). col_in (at_link es x)) eq ∙ ap col_in here))
+    (λ (ne : k ≢ l). ap col_in (there k ne)) (cases_eq k l) in
     let row_side = IsSide-same t.size es row_in t.rows.lines.lists t.rows.active.items h.matrix.rows es' back forth same_row in
     let col_side = IsSide-same t.size es col_in t.cols.lines.lists t.cols.active.items h.matrix.cols es' back forth same_col in
     record {
@@ -113,18 +122,25 @@ module _ (t t' : Table) (l : ℕ) (e : Entry) (h : IsHeld t) (here : at_link t.e
       let ne : k ≢ l = λ eq. none_some _ (ap (at_link es') eq ∙ now_none) some in
       (ne, subst IsSome (there k ne) some)
 
-  IsMatrix-taken : t'.rows.lines ≡ without_item t.rows.lines l → t'.rows.active.items ≡ t.rows.active.items → t'.cols.lines ≡ without_item t.cols.lines l → t'.cols.active.items ≡ t.cols.active.items → IsKept t'.rows → IsKept t'.cols → IsMatrix (matrix_of t')
+  IsMatrix-taken : t'.rows.lines ≡ without_item t.rows.lines l → t'.rows.active.items ≡ t.rows.active.items → t'.cols.lines ≡ without_item t.cols.lines l
+      → t'.cols.active.items ≡ t.cols.active.items → IsKept t'.rows → IsKept t'.cols → IsMatrix (matrix_of t')
   IsMatrix-taken rows active_rows cols active_cols kept_rows kept_cols = record {
     small = subst (λ (n : ℕ). n < 2 ^ 16) (sym size) h.matrix.small;
-    rows = subst (λ (n : ℕ). IsSide n es' row_in t'.rows.lines.lists t'.rows.active.items) (sym size) (IsSide-taken t.size es es' row_in t.rows.lines t'.rows.lines t.rows.active.items t'.rows.active.items l h.matrix.rows now_none there active_rows rows kept_rows.chained);
-    cols = subst (λ (n : ℕ). IsSide n es' col_in t'.cols.lines.lists t'.cols.active.items) (sym size) (IsSide-taken t.size es es' col_in t.cols.lines t'.cols.lines t.cols.active.items t'.cols.active.items l h.matrix.cols now_none there active_cols cols kept_cols.chained);
+    rows = subst (λ (n : ℕ). IsSide n es' row_in t'.rows.lines.lists t'.rows.active.items) (sym size)
+        (IsSide-taken t.size es es' row_in t.rows.lines t'.rows.lines t.rows.active.items t'.rows.active.items l h.matrix.rows now_none there active_rows rows
+        kept_rows.chained);
+    cols = subst (λ (n : ℕ). IsSide n es' col_in t'.cols.lines.lists t'.cols.active.items) (sym size)
+        (IsSide-taken t.size es es' col_in t.cols.lines t'.cols.lines t.cols.active.items t'.cols.active.items l h.matrix.cols now_none there active_cols cols
+        kept_cols.chained);
     apart = λ k m some_k some_m er ec.
         let b = back k some_k in
         let d = back m some_m in
         h.matrix.apart k m b.1 d.1 (sym (ap row_in (there k b.0)) ∙ er ∙ ap row_in (there m d.0)) (sym (ap col_in (there k b.0)) ∙ ec ∙ ap col_in (there m d.0));
   }
 
-  pub IsHeld-taken : t'.free ≡ with_item t.free l 0 → IsChained t'.free → t'.rows.lines ≡ without_item t.rows.lines l → t'.rows.active.items ≡ t.rows.active.items → IsKept t'.rows → t'.cols.lines ≡ without_item t.cols.lines l → t'.cols.active.items ≡ t.cols.active.items → IsKept t'.cols → IsHeld t'
+  pub IsHeld-taken : t'.free ≡ with_item t.free l 0 → IsChained t'.free → t'.rows.lines ≡ without_item t.rows.lines l
+      → t'.rows.active.items ≡ t.rows.active.items → IsKept t'.rows → t'.cols.lines ≡ without_item t.cols.lines l → t'.cols.active.items ≡ t.cols.active.items
+      → IsKept t'.cols → IsHeld t'
   IsHeld-taken free chained rows active_rows kept_rows cols active_cols kept_cols =
       let one : 0 < length t.free.lists = omega (arith, h.free_list) in
       record {
@@ -173,7 +189,8 @@ module _ (t t' : Table) (l : ℕ) (e : Entry) (h : IsHeld t) (at_free : Contains
   put_len : length fs' ≡ length fs
   put_len = set_len fs fs' l (Some e) put_within is
 
-  put_apart : (Has (matrix_of t) e.0 e.1 → ⊥) → (k m : ℕ) → IsSome (at_link fs' k) → IsSome (at_link fs' m) → row_in (at_link fs' k) ≡ row_in (at_link fs' m) → col_in (at_link fs' k) ≡ col_in (at_link fs' m) → k ≡ m
+  put_apart : (Has (matrix_of t) e.0 e.1 → ⊥) → (k m : ℕ) → IsSome (at_link fs' k) → IsSome (at_link fs' m) → row_in (at_link fs' k) ≡ row_in (at_link fs' m)
+      → col_in (at_link fs' k) ≡ col_in (at_link fs' m) → k ≡ m
   put_apart absent k m some_k some_m er ec =
       let row_l : row_in (at_link fs' l) ≡ e.0 = ap row_in now_some in
       let col_l : col_in (at_link fs' l) ≡ e.1 = ap col_in now_some in
@@ -186,19 +203,30 @@ module _ (t t' : Table) (l : ℕ) (e : Entry) (h : IsHeld t) (at_free : Contains
       (cases_eq m l))
       (λ (nk : k ≢ l). ⊎_elim
       (λ (em : m ≡ l). absurd (clash k nk some_k (er ∙ ap (λ (x : ℕ). row_in (at_link fs' x)) em ∙ row_l) (ec ∙ ap (λ (x : ℕ). col_in (at_link fs' x)) em ∙ col_l)))
-      (λ (nm : m ≢ l). h.matrix.apart k m (subst IsSome (others_there k nk) some_k) (subst IsSome (others_there m nm) some_m) (sym (ap row_in (others_there k nk)) ∙ er ∙ ap row_in (others_there m nm)) (sym (ap col_in (others_there k nk)) ∙ ec ∙ ap col_in (others_there m nm)))
+      (λ (nm : m ≢ l). h.matrix.apart k m (subst IsSome (others_there k nk) some_k) (subst IsSome (others_there m nm) some_m)
+      (sym (ap row_in (others_there k nk)) ∙ er ∙ ap row_in (others_there m nm)) (sym (ap col_in (others_there k nk)) ∙ ec ∙ ap col_in (others_there m nm)))
       (cases_eq m l))
       (cases_eq k l)
 
-  IsMatrix-put : e.0 < t.size → e.1 < t.size → is_active t.rows.active.items e.0 ≡ true → is_active t.cols.active.items e.1 ≡ true → (Has (matrix_of t) e.0 e.1 → ⊥) → t'.rows.lines ≡ with_item t.rows.lines l e.0 → t'.rows.active.items ≡ t.rows.active.items → t'.cols.lines ≡ with_item t.cols.lines l e.1 → t'.cols.active.items ≡ t.cols.active.items → IsChained t'.rows.lines → IsChained t'.cols.lines → IsMatrix (matrix_of t')
+  IsMatrix-put : e.0 < t.size → e.1 < t.size → is_active t.rows.active.items e.0 ≡ true → is_active t.cols.active.items e.1 ≡ true
+      → (Has (matrix_of t) e.0 e.1 → ⊥) → t'.rows.lines ≡ with_item t.rows.lines l e.0 → t'.rows.active.items ≡ t.rows.active.items
+      → t'.cols.lines ≡ with_item t.cols.lines l e.1 → t'.cols.active.items ≡ t.cols.active.items → IsChained t'.rows.lines → IsChained t'.cols.lines
+      → IsMatrix (matrix_of t')
   IsMatrix-put r_lt c_lt on_r on_c absent rows active_rows cols active_cols chained_rows chained_cols = record {
     small = subst (λ (n : ℕ). n < 2 ^ 16) (sym size) h.matrix.small;
-    rows = subst (λ (n : ℕ). IsSide n fs' row_in t'.rows.lines.lists t'.rows.active.items) (sym size) (IsSide-put t.size fs fs' row_in t.rows.lines t'.rows.lines t.rows.active.items t'.rows.active.items l e.0 e h.matrix.rows was_none now_some others_there refl r_lt on_r active_rows rows chained_rows);
-    cols = subst (λ (n : ℕ). IsSide n fs' col_in t'.cols.lines.lists t'.cols.active.items) (sym size) (IsSide-put t.size fs fs' col_in t.cols.lines t'.cols.lines t.cols.active.items t'.cols.active.items l e.1 e h.matrix.cols was_none now_some others_there refl c_lt on_c active_cols cols chained_cols);
+    rows = subst (λ (n : ℕ). IsSide n fs' row_in t'.rows.lines.lists t'.rows.active.items) (sym size)
+        (IsSide-put t.size fs fs' row_in t.rows.lines t'.rows.lines t.rows.active.items t'.rows.active.items l e.0 e h.matrix.rows was_none now_some
+        others_there refl r_lt on_r active_rows rows chained_rows);
+    cols = subst (λ (n : ℕ). IsSide n fs' col_in t'.cols.lines.lists t'.cols.active.items) (sym size)
+        (IsSide-put t.size fs fs' col_in t.cols.lines t'.cols.lines t.cols.active.items t'.cols.active.items l e.1 e h.matrix.cols was_none now_some
+        others_there refl c_lt on_c active_cols cols chained_cols);
     apart = put_apart absent;
   }
 
-  pub IsHeld-put : t'.free ≡ without_item t.free l → IsChained t'.free → e.0 < t.size → e.1 < t.size → is_active t.rows.active.items e.0 ≡ true → is_active t.cols.active.items e.1 ≡ true → (Has (matrix_of t) e.0 e.1 → ⊥) → t'.rows.lines ≡ with_item t.rows.lines l e.0 → t'.rows.active.items ≡ t.rows.active.items → IsKept t'.rows → t'.cols.lines ≡ with_item t.cols.lines l e.1 → t'.cols.active.items ≡ t.cols.active.items → IsKept t'.cols → IsHeld t'
+  pub IsHeld-put : t'.free ≡ without_item t.free l → IsChained t'.free → e.0 < t.size → e.1 < t.size → is_active t.rows.active.items e.0 ≡ true
+      → is_active t.cols.active.items e.1 ≡ true → (Has (matrix_of t) e.0 e.1 → ⊥) → t'.rows.lines ≡ with_item t.rows.lines l e.0
+      → t'.rows.active.items ≡ t.rows.active.items → IsKept t'.rows → t'.cols.lines ≡ with_item t.cols.lines l e.1 → t'.cols.active.items ≡ t.cols.active.items
+      → IsKept t'.cols → IsHeld t'
   IsHeld-put free chained r_lt c_lt on_r on_c absent rows active_rows kept_rows cols active_cols kept_cols =
       record {
         matrix = IsMatrix-put r_lt c_lt on_r on_c absent rows active_rows cols active_cols kept_rows.chained kept_cols.chained;
@@ -252,18 +280,28 @@ module _ (first last total : ℕ) (ch : Chains) (h : AreFree first last total ch
       }
 
 -- links more, all of them free
-module _ (t t' : Table) (total : ℕ) (h : IsHeld t) (full : list_at t.free 0 ≡ []) (size : t'.size ≡ t.size) (len : length t'.entries.items ≡ total) (same : (l : ℕ) → at_link t'.entries.items l ≡ at_link t.entries.items l) (most : total ≤ 2 ^ 32) where
+module _ (t t' : Table) (total : ℕ) (h : IsHeld t) (full : list_at t.free 0 ≡ []) (size : t'.size ≡ t.size) (len : length t'.entries.items ≡ total)
+    (same : (l : ℕ) → at_link t'.entries.items l ≡ at_link t.entries.items l) (most : total ≤ 2 ^ 32) where
   side_grown : (line_in : Option Entry → ℕ) (lists : List (List ℕ)) (active : List Bool) → IsSide t.size t.entries.items line_in lists active → IsSide t'.size t'.entries.items line_in lists active
   side_grown line_in lists active side =
-      subst (λ (n : ℕ). IsSide n t'.entries.items line_in lists active) (sym size) (IsSide-same t.size t.entries.items line_in lists active side t'.entries.items (λ l some. subst IsSome (same l) some) (λ l some. subst IsSome (sym (same l)) some) (λ l. ap line_in (same l)))
+      subst (λ (n : ℕ). IsSide n t'.entries.items line_in lists active) (sym size)
+      (IsSide-same t.size t.entries.items line_in lists active side t'.entries.items (λ l some. subst IsSome (same l) some)
+      (λ l some. subst IsSome (sym (same l)) some) (λ l. ap line_in (same l)))
 
-  pub IsHeld-grown : AreFree (length t.entries.items) total total t'.free → t'.rows.lines ≡ record { items = total; lists = t.rows.lines.lists } → t'.rows.active.items ≡ t.rows.active.items → IsKept t'.rows → t'.cols.lines ≡ record { items = total; lists = t.cols.lines.lists } → t'.cols.active.items ≡ t.cols.active.items → IsKept t'.cols → IsHeld t'
+  pub IsHeld-grown : AreFree (length t.entries.items) total total t'.free → t'.rows.lines ≡ record { items = total; lists = t.rows.lines.lists }
+      → t'.rows.active.items ≡ t.rows.active.items → IsKept t'.rows → t'.cols.lines ≡ record { items = total; lists = t.cols.lines.lists }
+      → t'.cols.active.items ≡ t.cols.active.items → IsKept t'.cols → IsHeld t'
   IsHeld-grown free rows active_rows kept_rows cols active_cols kept_cols = record {
     matrix = record {
       small = subst (λ (n : ℕ). n < 2 ^ 16) (sym size) h.matrix.small;
-      rows = subst (λ (ls : List (List ℕ)). IsSide t'.size t'.entries.items row_in ls t'.rows.active.items) (sym (ap (λ (c : Chains). c.lists) rows)) (subst (λ (bools : List Bool). IsSide t'.size t'.entries.items row_in t.rows.lines.lists bools) (sym active_rows) (side_grown row_in t.rows.lines.lists t.rows.active.items h.matrix.rows));
-      cols = subst (λ (ls : List (List ℕ)). IsSide t'.size t'.entries.items col_in ls t'.cols.active.items) (sym (ap (λ (c : Chains). c.lists) cols)) (subst (λ (bools : List Bool). IsSide t'.size t'.entries.items col_in t.cols.lines.lists bools) (sym active_cols) (side_grown col_in t.cols.lines.lists t.cols.active.items h.matrix.cols));
-      apart = λ k m some_k some_m er ec. h.matrix.apart k m (subst IsSome (same k) some_k) (subst IsSome (same m) some_m) (sym (ap row_in (same k)) ∙ er ∙ ap row_in (same m)) (sym (ap col_in (same k)) ∙ ec ∙ ap col_in (same m));
+      rows = subst (λ (ls : List (List ℕ)). IsSide t'.size t'.entries.items row_in ls t'.rows.active.items) (sym (ap (λ (c : Chains). c.lists) rows))
+          (subst (λ (bools : List Bool). IsSide t'.size t'.entries.items row_in t.rows.lines.lists bools) (sym active_rows)
+          (side_grown row_in t.rows.lines.lists t.rows.active.items h.matrix.rows));
+      cols = subst (λ (ls : List (List ℕ)). IsSide t'.size t'.entries.items col_in ls t'.cols.active.items) (sym (ap (λ (c : Chains). c.lists) cols))
+          (subst (λ (bools : List Bool). IsSide t'.size t'.entries.items col_in t.cols.lines.lists bools) (sym active_cols)
+          (side_grown col_in t.cols.lines.lists t.cols.active.items h.matrix.cols));
+      apart = λ k m some_k some_m er ec. h.matrix.apart k m (subst IsSome (same k) some_k) (subst IsSome (same m) some_m)
+          (sym (ap row_in (same k)) ∙ er ∙ ap row_in (same m)) (sym (ap col_in (same k)) ∙ ec ∙ ap col_in (same m));
     };
     rows = kept_rows;
     cols = kept_cols;
@@ -281,7 +319,9 @@ module _ (t t' : Table) (total : ℕ) (h : IsHeld t) (full : list_at t.free 0 �
   }
 
 -- nothing stands anywhere
-pub IsHeld-new : (t : Table) (n : ℕ) → n < 2 ^ 16 → t.size ≡ n → t.entries.items ≡ [] → t.free ≡ record { items = 0; lists = replicate 1 [] } → t.rows.lines ≡ record { items = 0; lists = replicate n [] } → t.rows.active.items ≡ replicate n true → IsKept t.rows → t.cols.lines ≡ record { items = 0; lists = replicate n [] } → t.cols.active.items ≡ replicate n true → IsKept t.cols → IsHeld t
+pub IsHeld-new : (t : Table) (n : ℕ) → n < 2 ^ 16 → t.size ≡ n → t.entries.items ≡ [] → t.free ≡ record { items = 0; lists = replicate 1 [] }
+    → t.rows.lines ≡ record { items = 0; lists = replicate n [] } → t.rows.active.items ≡ replicate n true → IsKept t.rows
+    → t.cols.lines ≡ record { items = 0; lists = replicate n [] } → t.cols.active.items ≡ replicate n true → IsKept t.cols → IsHeld t
 IsHeld-new t n small size none free rows active_rows kept_rows cols active_cols kept_cols =
     let off : (l : ℕ) → at_link t.entries.items l ≡ None = λ l. ap (λ (es : List (Option Entry)). at_link es l) none in
     let no_free : (k : ℕ) → list_at t.free k ≡ [] = λ k. ap (λ (c : Chains). list_at c k) free ∙ empty_lists 1 k in
@@ -304,7 +344,9 @@ IsHeld-new t n small size none free rows active_rows kept_rows cols active_cols 
       free_only = λ l k held. off l;
     }
   where
-    nothing_in : (t : Table) (n : ℕ) → t.size ≡ n → ((l : ℕ) → at_link t.entries.items l ≡ None) → (line_in : Option Entry → ℕ) (ch : Chains) (active : List Bool) → ch ≡ record { items = 0; lists = replicate n [] } → active ≡ replicate n true → IsChained ch → IsSide t.size t.entries.items line_in ch.lists active
+    nothing_in : (t : Table) (n : ℕ) → t.size ≡ n → ((l : ℕ) → at_link t.entries.items l ≡ None)
+        → (line_in : Option Entry → ℕ) (ch : Chains) (active : List Bool) → ch ≡ record { items = 0; lists = replicate n [] } → active ≡ replicate n true
+        → IsChained ch → IsSide t.size t.entries.items line_in ch.lists active
     nothing_in t n size off line_in ch active is on chained =
         let empty : (i : ℕ) → list_at ch i ≡ [] = λ i. ap (λ (c : Chains). list_at c i) is ∙ empty_lists n i in
         record {
@@ -318,7 +360,9 @@ IsHeld-new t n small size none free rows active_rows kept_rows cols active_cols 
 
 -- the same entries and lists
 module _ (t t' : Table) (i : ℕ) (h : IsHeld t) (lt : i < t.size) where
-  IsHeld-lists : t'.size ≡ t.size → t'.entries ≡ t.entries → t'.free ≡ t.free → t'.rows.lines ≡ t.rows.lines → t'.cols.lines ≡ t.cols.lines → IsKept t'.rows → IsKept t'.cols → IsSide t.size t.entries.items row_in t.rows.lines.lists t'.rows.active.items → IsSide t.size t.entries.items col_in t.cols.lines.lists t'.cols.active.items → IsHeld t'
+  IsHeld-lists : t'.size ≡ t.size → t'.entries ≡ t.entries → t'.free ≡ t.free → t'.rows.lines ≡ t.rows.lines → t'.cols.lines ≡ t.cols.lines → IsKept t'.rows
+      → IsKept t'.cols → IsSide t.size t.entries.items row_in t.rows.lines.lists t'.rows.active.items
+      → IsSide t.size t.entries.items col_in t.cols.lines.lists t'.cols.active.items → IsHeld t'
   IsHeld-lists size entries free rows cols kept_rows kept_cols row_side col_side =
       let items = ap (λ v. v.items) entries in
       record {
@@ -340,14 +384,18 @@ module _ (t t' : Table) (i : ℕ) (h : IsHeld t) (lt : i < t.size) where
         free_only = rw (items, free) h.free_only;
       }
 
-  pub IsHeld-retired_row : row (matrix_of t) i ≡ [] → t'.size ≡ t.size → t'.entries ≡ t.entries → t'.free ≡ t.free → t'.rows.lines ≡ t.rows.lines → t'.rows.active.items ≡ set t.rows.active.items i false → IsKept t'.rows → t'.cols ≡ t.cols → IsHeld t'
+  pub IsHeld-retired_row : row (matrix_of t) i ≡ [] → t'.size ≡ t.size → t'.entries ≡ t.entries → t'.free ≡ t.free → t'.rows.lines ≡ t.rows.lines
+      → t'.rows.active.items ≡ set t.rows.active.items i false → IsKept t'.rows → t'.cols ≡ t.cols → IsHeld t'
   IsHeld-retired_row empty size entries free rows active kept cols =
       IsHeld-lists size entries free rows (ap (λ s. s.lines) cols) kept (subst IsKept (sym cols) h.cols)
-      (subst (λ (bools : List Bool). IsSide t.size t.entries.items row_in t.rows.lines.lists bools) (sym active) (IsSide-retired t.size t.entries.items row_in t.rows.lines.lists t.rows.active.items h.matrix.rows i lt empty))
+      (subst (λ (bools : List Bool). IsSide t.size t.entries.items row_in t.rows.lines.lists bools) (sym active)
+      (IsSide-retired t.size t.entries.items row_in t.rows.lines.lists t.rows.active.items h.matrix.rows i lt empty))
       (subst (λ s. IsSide t.size t.entries.items col_in t.cols.lines.lists s.active.items) (sym cols) h.matrix.cols)
 
-  pub IsHeld-retired_col : col (matrix_of t) i ≡ [] → t'.size ≡ t.size → t'.entries ≡ t.entries → t'.free ≡ t.free → t'.cols.lines ≡ t.cols.lines → t'.cols.active.items ≡ set t.cols.active.items i false → IsKept t'.cols → t'.rows ≡ t.rows → IsHeld t'
+  pub IsHeld-retired_col : col (matrix_of t) i ≡ [] → t'.size ≡ t.size → t'.entries ≡ t.entries → t'.free ≡ t.free → t'.cols.lines ≡ t.cols.lines
+      → t'.cols.active.items ≡ set t.cols.active.items i false → IsKept t'.cols → t'.rows ≡ t.rows → IsHeld t'
   IsHeld-retired_col empty size entries free cols active kept rows =
       IsHeld-lists size entries free (ap (λ s. s.lines) rows) cols (subst IsKept (sym rows) h.rows) kept
       (subst (λ s. IsSide t.size t.entries.items row_in t.rows.lines.lists s.active.items) (sym rows) h.matrix.rows)
-      (subst (λ (bools : List Bool). IsSide t.size t.entries.items col_in t.cols.lines.lists bools) (sym active) (IsSide-retired t.size t.entries.items col_in t.cols.lines.lists t.cols.active.items h.matrix.cols i lt empty))
+      (subst (λ (bools : List Bool). IsSide t.size t.entries.items col_in t.cols.lines.lists bools) (sym active)
+      (IsSide-retired t.size t.entries.items col_in t.cols.lines.lists t.cols.active.items h.matrix.cols i lt empty))

@@ -61,7 +61,8 @@ fn is_settled(table: &Table, best: Option<usize>, count: usize) -> bool
     requires held { IsHeld table.now }
     requires link { IsLinkIfSome (matrix_of table.now) best }
     requires count { count ≤ table.now.size }
-    ensures { IsTrue result → (k : ℕ) → count < length (row (matrix_of table.now) (row_of (matrix_of table.now) k)) → count < length (col (matrix_of table.now) (col_of (matrix_of table.now) k)) → Covers (matrix_of table.now) best k }
+    ensures { IsTrue result → (k : ℕ) → count < length (row (matrix_of table.now) (row_of (matrix_of table.now) k))
+        → count < length (col (matrix_of table.now) (col_of (matrix_of table.now) k)) → Covers (matrix_of table.now) best k }
 {
     match best {
         Some(link) => cost(table, link) < count * count,

@@ -33,7 +33,14 @@ impl Table {
     /// A table of `size` rows and columns with no entry.
     pub fn new<L: Ledger>(alloc: Global, size: usize, steps: &mut Steps<L>) -> Result<Table, Memory>
         requires small { size < 2 ^ 16 }
-        ensures empty { IfOk result (λ t. matrix_of t ≡ record { size = size; entries = []; rows = replicate size []; cols = replicate size []; active_rows = replicate size true; active_cols = replicate size true }) }
+        ensures empty { IfOk result (λ t. matrix_of t ≡ record {
+          size = size;
+          entries = [];
+          rows = replicate size [];
+          cols = replicate size [];
+          active_rows = replicate size true;
+          active_cols = replicate size true;
+        }) }
         ensures held { IfOk result (λ t. IsHeld t) }
     {
         Ok(Table {

@@ -7,8 +7,8 @@
 //! list of rows, the list of columns, and the constant. A [`Name`] is its list of bytes, and a column's
 //! entries are pairs of row and number by rising rows, none of them 0. `specs/End.antt` says which
 //! interval two [`End`]s make, and `specs/Named.antt` that each row and each column is found by its name.
-//! A [`Log`] is the list of its entries, and `specs/Outcome.antt` says which outcome of `lp_model` an
-//! [`Outcome`] is.
+//! A [`Log`] is the list of its entries, [`Numbers`] are the list of them, a [`Basis`] is the record of
+//! that name in `lp_model`, and `specs/Outcome.antt` says which outcome of `lp_model` an [`Outcome`] is.
 //!
 //! # Contract
 //!
@@ -31,6 +31,7 @@
 //! enums of `lp_model` under its own name.
 #![tactic(auto)]
 
+mod basis;
 mod deck;
 mod end;
 mod fault;
@@ -38,6 +39,7 @@ mod log;
 mod name;
 mod outcome;
 
+pub use basis::{Basis, Numbers};
 pub use deck::{Deck, MAX_COLUMNS, MAX_ROWS};
 pub use end::End;
 pub use fault::EditFault;

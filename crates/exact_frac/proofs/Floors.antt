@@ -62,7 +62,8 @@ module _ (l r : ℤ) (denom part : ℕ) (fits_l : SFits w128 l) (fits_r : SFits 
   pub wide_sum : part < 2 * denom → ¬ SFits w128 (cast_signed w128 (cast_unsigned w128 l) +ℤ cast_signed w128 (cast_unsigned w128 r)) → 2 ^ 127 ≤ nat_abs ((l +ℤ r) *ℤ pos denom +ℤ pos part)
   wide_sum below wide = wide_floor (l +ℤ r) denom part (omega arith) below (λ h. wide (subst (SFits w128) (sym (seen l r fits_l fits_r)) h))
 
-  module _ (f : ℤ) (is : SFits w128 (cast_signed w128 (cast_unsigned w128 l) +ℤ cast_signed w128 (cast_unsigned w128 r)) × (f ≡ cast_signed w128 (cast_unsigned w128 l) +ℤ cast_signed w128 (cast_unsigned w128 r))) where
+  module _ (f : ℤ) (is : SFits w128 (cast_signed w128 (cast_unsigned w128 l) +ℤ cast_signed w128 (cast_unsigned w128 r))
+      × (f ≡ cast_signed w128 (cast_unsigned w128 l) +ℤ cast_signed w128 (cast_unsigned w128 r))) where
     fits_f : SFits w128 f
     fits_f = subst (SFits w128) (sym is.1) is.0
 

@@ -58,7 +58,8 @@ quotient_pos g q positive some d =
 
 -- ---- an integer over a positive one, as the code reads and reduces them
 
-module _ (p y : ℤ) (in_range : nat_abs p < 2 ^ 127) (above : pos 0 <ℤ y) (fits : SFits w128 y) (x q g : ℕ) (size : x ≡ nat_abs (cast_signed w128 (cast_unsigned w128 p))) (denom : q ≡ nat_abs (cast_signed w128 (cast_unsigned w128 y))) (common : g ≡ gcd x q) where
+module _ (p y : ℤ) (in_range : nat_abs p < 2 ^ 127) (above : pos 0 <ℤ y) (fits : SFits w128 y) (x q g : ℕ)
+    (size : x ≡ nat_abs (cast_signed w128 (cast_unsigned w128 p))) (denom : q ≡ nat_abs (cast_signed w128 (cast_unsigned w128 y))) (common : g ≡ gcd x q) where
   size_is : x ≡ nat_abs p
   size_is = size ∙ ap nat_abs (bits_back p in_range)
 

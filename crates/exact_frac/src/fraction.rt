@@ -1,6 +1,6 @@
 // The type `Frac` and its methods.
 ghost use Rattle.std.specs.Prelude.{◌≡◌, ◌^◌, ◌<◌, ◌≤◌, pos, ◌<ℤ◌, nat_abs, unsigned_abs, IsTrue, ◌↔◌, FitsSigned, neg_ℤ};
-ghost use Rattle.rational.specs.Rational.{ratio, neg_ℚ, zero_ℚ, one_ℚ};
+ghost use Rattle.rational.specs.Rational.{abs_ℚ, ratio, neg_ℚ, zero_ℚ, one_ℚ};
 ghost use Rattle.rational.specs.Width.{FitsWidth};
 ghost use Rattle.exact_frac.specs.Exact.{Exact};
 ghost use Rattle.exact_frac.specs.Parts.{sign_of};
@@ -96,6 +96,18 @@ impl Frac {
         Frac {
             numer: -self.numer,
             denom: self.denom,
+        }
+    }
+
+    /// The size: the fraction itself, or its opposite where it is below 0.
+    #[tactic(auto, using(crate::specs::Constants::constants))]
+    pub fn abs(self) -> Frac
+        ensures { result ≡ abs_ℚ self }
+    {
+        match self.cmp(&Frac::ZERO) {
+            Ordering::Less => self.negated(),
+            Ordering::Equal => self,
+            Ordering::Greater => self,
         }
     }
 

@@ -51,7 +51,8 @@ module _ (nodes : List Bool) (leaves : ℕ) (h : AreJoinedBut 0 leaves nodes) wh
       ap (λ b. b || is_set nodes (2 * k + 1)) (sym off) ∙ sym (h k some lt (λ e. omega arith)) ∙ on
 
   -- the nodes before the next one are not set, where those before node k are not
-  pub first_below : (low k next j : ℕ) → 0 < low → k < leaves → ((i : ℕ) → low ≤ i → i < k → is_set nodes i ≡ false) → (next ≡ 2 * k) ⊎ ((next ≡ 2 * k + 1) × (is_set nodes (2 * k) ≡ false)) → 2 * low ≤ j → j < next → is_set nodes j ≡ false
+  pub first_below : (low k next j : ℕ) → 0 < low → k < leaves → ((i : ℕ) → low ≤ i → i < k → is_set nodes i ≡ false) → (next ≡ 2 * k)
+      ⊎ ((next ≡ 2 * k + 1) × (is_set nodes (2 * k) ≡ false)) → 2 * low ≤ j → j < next → is_set nodes j ≡ false
   first_below low k next j some lt before which le less =
       ⊎_elim
       (λ (left : j / 2 < k). unset_below j (omega arith) (omega arith) (before (j / 2) (omega arith) left))

@@ -19,7 +19,8 @@ use Rattle.frac_text.specs.Inner.{is_negative, unsigned, is_no_stroke, denominat
 fraction_parts : (v : ℚ) → fraction_text v ≡ signed_decimal v.numerator ++ denominator_text v.denominator
 fraction_parts v = each (v.denominator == 1)
   where
-    each : (b : Bool) → (if b then signed_decimal v.numerator else signed_decimal v.numerator ++ 47 ∷ decimal v.denominator) ≡ signed_decimal v.numerator ++ (if b then [] else 47 ∷ decimal v.denominator)
+    each : (b : Bool) → (if b then signed_decimal v.numerator else signed_decimal v.numerator ++ 47 ∷ decimal v.denominator) ≡ signed_decimal v.numerator ++
+        (if b then [] else 47 ∷ decimal v.denominator)
     each true = sym (append-nil (signed_decimal v.numerator))
     each false = refl
 

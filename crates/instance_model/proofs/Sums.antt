@@ -41,20 +41,6 @@ entry_from ((k, v) ∷ pairs) i = by_test (eqb k i) (entry_from pairs i)
     by_test true h = refl
     by_test false h = h
 
-abs-zero : abs_ℚ zero_ℚ ≡ zero_ℚ
-unfolding abs_ℚ zero_ℚ
-abs-zero = refl
-
-module _ (a z : ℚ) (zero : z ≡ zero_ℚ) where
-  pub size_below : Less ≡ cmp_ℚ a z → neg_ℚ a ≡ abs_ℚ a
-  size_below e = sym (abs_ℚ-below a (subst (λ z. a <ℚ z) zero (cmp_less a z (sym e))))
-
-  pub size_equal : Equal ≡ cmp_ℚ a z → a ≡ abs_ℚ a
-  size_equal e = let none : a ≡ zero_ℚ = cmp_equal a z (sym e) ∙ zero in none ∙ sym abs-zero ∙ ap abs_ℚ (sym none)
-
-  pub size_above : Greater ≡ cmp_ℚ a z → a ≡ abs_ℚ a
-  size_above e = sym (abs_ℚ-above a (subst (λ z. z <ℚ a) zero (cmp_greater a z (sym e))))
-
 -- ── one value ──
 
 module _ (w : ℕ) (here : Place) (o : Option ℚ) (v : ℚ) (is : o ≡ Some v) where
@@ -264,7 +250,7 @@ range_more a (suc n) =
     let e : a + 1 + n ≡ a + suc n = omega arith in
     ap (λ xs. a ∷ xs) (range_more (a + 1) n ∙ ap (λ k. range_with_len (a + 1) n ++ k ∷ []) e)
 
-filter_next : (p : ℕ → Bool) (j : ℕ) → filter p (upto (j + 1)) ≡ filter p (upto j) ++ cond (p j) (j ∷ []) []
+pub filter_next : (p : ℕ → Bool) (j : ℕ) → filter p (upto (j + 1)) ≡ filter p (upto j) ++ cond (p j) (j ∷ []) []
 filter_next p j =
     let next : j + 1 ≡ suc j = omega arith in
     let last : 0 + j ≡ j = omega arith in

@@ -1,3 +1,4 @@
+pub mod Basis
 pub mod Entries
 pub mod Inner
 pub mod Making

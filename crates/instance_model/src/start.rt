@@ -1,5 +1,5 @@
 //! The start of the method.
-ghost use Rattle.std.specs.Prelude.{◌≡◌, ◌<◌, IfOk, map, if◌then◌else◌, is_some};
+ghost use Rattle.std.specs.Prelude.{◌≡◌, ◌<◌, ◌≤◌, ◌^◌, IfOk, length, map, if◌then◌else◌, is_some};
 ghost use Rattle.std.specs.List.{list_any};
 ghost use Rattle.lp_model.specs.declared.Phase.TheVariants.{One, Two};
 ghost use Rattle.lp_run.specs.Instance.{row_count};
@@ -56,7 +56,8 @@ impl Instance {
 
     // The statuses of all columns.
     fn start_statuses(&self, alloc: Global) -> Result<Vec<Status>, AllocError>
-        ensures { IfOk result (λ statuses. statuses.items ≡ (start_of self.now).statuses) }
+        ensures statuses { IfOk result (λ statuses. statuses.items ≡ (start_of self.now).statuses) }
+        ensures few { IfOk result (λ statuses. length statuses.items ≤ 2 ^ 32) }
     {
         let mut statuses = structural_starts(alloc, &self.structurals)?;
         let logicals = logical_starts(alloc, &self.passed)?;

@@ -7,7 +7,6 @@ ghost use Rattle.lp_model.specs.declared.Kind.TheVariants as kind;
 ghost use Rattle.lp_model.specs.Deck.{column as column_at, entry as entry_of, logical_bounds as logical_bounds_at, logical_bounds_of, row as row_at};
 ghost use Rattle.lp_run.specs.Instance.{equations_of, range_sum as range_sum_of, residual as residual_of, structural_count};
 ghost use Rattle.lp_run.specs.Listing.{listed_at, place, start_sums};
-ghost use Rattle.rational.specs.Rational.{abs_ℚ};
 ghost use Rattle.rational.specs.Sparse.{upto};
 ghost use Rattle.rational.specs.Sum.{at};
 ghost use Rattle.instance_model.specs.Inner.Starts.{Judges, excess_listing, off_zero, range_shift as shift_of, row_place as place_of_row, row_start as row_start_of, side_past, takings};
@@ -139,8 +138,8 @@ fn range_shift(kind: RowKind, range: Option<Frac>) -> Option<Frac>
 {
     match (kind, range) {
         (_, None) => None,
-        (RowKind::L, Some(range)) => Some(size(range).negated()),
-        (RowKind::G, Some(range)) => Some(size(range)),
+        (RowKind::L, Some(range)) => Some(range.abs().negated()),
+        (RowKind::G, Some(range)) => Some(range.abs()),
         (RowKind::E, Some(range)) => match range.cmp(&Frac::ZERO) {
             Ordering::Less => Some(range),
             Ordering::Equal => None,
@@ -164,12 +163,12 @@ fn slack(kind: RowKind, range: Option<Frac>) -> Bounds
 {
     match (kind, range) {
         (RowKind::L, None) => Bounds::new(Some(Frac::ZERO), None),
-        (RowKind::L, Some(range)) => Bounds::new(Some(Frac::ZERO), Some(size(range))),
+        (RowKind::L, Some(range)) => Bounds::new(Some(Frac::ZERO), Some(range.abs())),
         (RowKind::G, None) => Bounds::new(None, Some(Frac::ZERO)),
-        (RowKind::G, Some(range)) => Bounds::new(Some(size(range).negated()), Some(Frac::ZERO)),
+        (RowKind::G, Some(range)) => Bounds::new(Some(range.abs().negated()), Some(Frac::ZERO)),
         (RowKind::E, None) => Bounds::new(Some(Frac::ZERO), Some(Frac::ZERO)),
         (RowKind::E, Some(range)) => match range.cmp(&Frac::ZERO) {
-            Ordering::Less => Bounds::new(Some(Frac::ZERO), Some(size(range))),
+            Ordering::Less => Bounds::new(Some(Frac::ZERO), Some(range.abs())),
             Ordering::Equal => Bounds::new(Some(Frac::ZERO), Some(Frac::ZERO)),
             Ordering::Greater => Bounds::new(Some(range.negated()), Some(Frac::ZERO)),
         },
@@ -202,18 +201,6 @@ fn entry(deck: &Deck, row: usize, column: usize) -> Frac
     ensures { result ≡ entry_of deck.now row column }
 {
     deck.column(column).get(row).unwrap_or(Frac::ZERO)
-}
-
-// The size of a fraction.
-#[tactic(auto, using(exact_frac::specs::Constants::constants))]
-fn size(a: Frac) -> Frac
-    ensures { result ≡ abs_ℚ a }
-{
-    match a.cmp(&Frac::ZERO) {
-        Ordering::Less => a.negated(),
-        Ordering::Equal => a,
-        Ordering::Greater => a,
-    }
 }
 
 // The place of a product that is taken from a row's right side.

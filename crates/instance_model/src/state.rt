@@ -1,5 +1,5 @@
 //! States of the method.
-ghost use Rattle.std.specs.Prelude.{◌≡◌, ◌<◌, length, IfOk};
+ghost use Rattle.std.specs.Prelude.{◌≡◌, ◌<◌, ◌≤◌, ◌^◌, length, IfOk};
 ghost use Rattle.lp_run.specs.State.{after, basic, other_end, standing_at, status_of};
 ghost use Rattle.instance_model.specs.Entries.{CanTake};
 
@@ -17,16 +17,20 @@ pub struct State {
 }
 
 impl Model for State {
+    ghost use Rattle.std.specs.Prelude.{◌≤◌, ◌^◌, length};
     ghost use Rattle.lp_run.specs.State.{State as Position};
 
     ghost Value = { Position };
 
     ghost view = { λ s. record { basis = s.basis.items; statuses = s.statuses.items; phase = s.phase } };
+
+    ghost invariant = { λ s. length s.statuses.items ≤ 2 ^ 32 };
 }
 
 impl State {
     /// The state of these parts.
     pub(crate) fn of(basis: Vec<u32>, statuses: Vec<Status>, phase: Phase) -> State
+        requires { length statuses.items ≤ 2 ^ 32 }
         ensures { result ≡ record { basis = basis.items; statuses = statuses.items; phase = phase } }
     {
         State {
@@ -51,9 +55,17 @@ impl State {
         self.basis[position]
     }
 
+    /// The basic columns, by position.
+    pub fn basis(&self) -> &[u32]
+        ensures { result.now ≡ self.now.basis }
+    {
+        &self.basis
+    }
+
     /// How many columns there are.
     pub fn columns(&self) -> usize
-        ensures { result ≡ length self.now.statuses }
+        ensures count { result ≡ length self.now.statuses }
+        ensures few { result ≤ 2 ^ 32 }
     {
         self.statuses.len()
     }

@@ -1,5 +1,5 @@
--- From what a solve answers, and the line that refuses, to how a call of the program ends.
-use Rattle.std.proofs.Common.{◌≡◌, ◌≢◌, ℕ, ◌⊎◌, List, Option, Some, None, Err, refl, sym, ◌∙◌, ap, subst, inl, inr}
+-- From what a solve answers, and the line that refuses, to what a call of the program does.
+use Rattle.std.proofs.Common.{◌≡◌, ◌≢◌, ℕ, ◌≤◌, ◌⊎◌, List, [], Option, Some, None, Ok, Err, refl, sym, ◌∙◌, ap, subst, inl, inr}
 use Rattle.std.specs.Prelude.{IfSome, IsErrOf, MatchOption}
 use Rattle.lp_model.specs.Deck.{Deck}
 use Rattle.lp_run.specs.Instance.{instance_of}
@@ -7,82 +7,72 @@ use Rattle.lp_run.specs.Listing.{RunFits}
 use Rattle.lp_model.specs.declared.Place.{Place}
 use Rattle.crew.proofs.Complete.{not_spent, not_unfit}
 use Rattle.mps_model.specs.DeckOf.{HasFault, Reading, crossed_bounds, has_fault, in_line, is_deck, no_end, no_objective, reading_of, TextFault}
+use Rattle.mps_reader.specs.Answers.{IsReadAsNeeded}
 use Rattle.mps_reader.specs.declared.faults.DeckFault.TheVariants as deck
 use Rattle.mps_reader.specs.declared.faults.DeckFault.{DeckFault}
 use Rattle.mps_reader.specs.Faults.{text_fault}
 use Rattle.lp_main.specs.FaultLines.{fault_line, reader_line}
 use Rattle.io_ends.specs.Count.{Rose}
-use Rattle.lp_text.specs.Words.{IsServed}
+use Rattle.lp_main.specs.World.{Stream, world}
+use Rattle.lp_main.specs.declared.words.Asked.{Asked}
 use Rattle.lp_main.specs.declared.refusal.Refusal.{Refusal}
 use Rattle.lp_main.specs.declared.refusal.Refusal.TheVariants as refusal
 use Rattle.lp_main.specs.declared.status.Status.{Status}
 use Rattle.lp_main.specs.declared.status.Status.TheVariants as status
 use Rattle.lp_main.specs.Ends.{End, FailsBy, LeavesBy, ReadsBy, SaysBy, WritesBy, status_of_end}
-use Rattle.lp_main.specs.Refusal.{line_of, status_of}
+use Rattle.lp_main.specs.Refusal.{line_of, status_of_refusal}
+use Rattle.lp_main.specs.Runs.{Runs}
 use Rattle.lp_main.specs.Says.{Says}
-use Rattle.lp_main.specs.Serves.{Answers, BeginsReport, EndsWithin, IsCutOff, IsFirstFault, IsOverBudget, IsOverflow, IsOrMemory, Reports, budget}
+use Rattle.lp_main.specs.Serves.{Answers, BeginsReport, EndsWithin, IsCutOff, IsFirstFault, IsOverBudget, IsOverflow, IsOrMemory, Reports}
 use Rattle.lp_main.specs.Solves.{IsCause}
 
 -- what was said is the refusal, or want of memory
-abbrev pub Said : Refusal → Status → Option (List ℕ) → Option (List ℕ) → ℕ → ℕ → Type 0
-Said r result e e' n n' = (said : Refusal) × ((said ≡ r) ⊎ (said ≡ refusal.Memory)) × (result ≡ status_of said) × Says e e' n n' (line_of said)
-
-abbrev pub Ended : ℕ → List (List ℕ) → Option (List ℕ) → Option (List ℕ) → Option (List ℕ) → Option (List ℕ) → Status → Option (List ℕ) → Option (List ℕ) → ℕ → ℕ → Type 0
-Ended w words text left old new result e e' n n' = (end : End) × (result ≡ status_of_end end) × LeavesBy w words text left old new end × SaysBy e e' n n' end
-
-pub ended_unserved : (w : ℕ) (words : List (List ℕ)) (text old : Option (List ℕ)) (result : Status) (e e' : Option (List ℕ)) (n n' : ℕ) → (¬ IsServed words) → Said refusal.Usage result e e' n n' → Ended w words text text old old result e e' n n'
-ended_unserved w words text old result e e' n n' unserved (said, inl is, status, says) = (Err refusal.Usage, status ∙ ap status_of is, (unserved, refl, refl), subst (λ r. Says e e' n n' (line_of r)) is says)
-ended_unserved w words text old result e e' n n' unserved (said, inr is, status, says) = (Err refusal.Memory, status ∙ ap status_of is, inr (unserved, refl, refl), subst (λ r. Says e e' n n' (line_of r)) is says)
+abbrev pub Said : Refusal → Status → Stream → Stream → Type 0
+Said r result old new = (said : Refusal) × ((said ≡ r) ⊎ (said ≡ refusal.Memory)) × (result ≡ status_of_refusal said) × Says old new (line_of said)
 
 -- want of memory may take the place of each refusal of a solve
-memory_in_place : (w : ℕ) (text left old new : Option (List ℕ)) (r : Refusal) → IsCause w text left old new r → IsCause w text left old new refusal.Memory
-memory_in_place w text left old new (refusal.Deck fault) cause = inl cause.1
-memory_in_place w text left old new refusal.Read cause = inl cause.1
-memory_in_place w text left old new refusal.Write cause = inr cause
-memory_in_place w text left old new refusal.Memory cause = cause
-memory_in_place w text left old new refusal.Usage cause = absurd cause
-memory_in_place w text left old new (refusal.Overflow here) cause = inl cause.1
-memory_in_place w text left old new (refusal.Budget k) cause = inl cause.1
+memory_in_place : (asked : Asked) (w : ℕ) (text left old new : Option (List ℕ)) (r : Refusal) → IsCause asked w text left old new r → IsCause asked w text left old new refusal.Memory
+memory_in_place asked w text left old new (refusal.Deck fault) cause = inl cause.1
+memory_in_place asked w text left old new refusal.Read cause = inl cause.1
+memory_in_place asked w text left old new refusal.Write cause = inr cause
+memory_in_place asked w text left old new refusal.Memory cause = cause
+memory_in_place asked w text left old new refusal.Usage cause = absurd cause
+memory_in_place asked w text left old new (refusal.Overflow here) cause = inl cause.1
+memory_in_place asked w text left old new (refusal.Budget k) cause = inl cause.1
 
-refused_by : (w : ℕ) (words : List (List ℕ)) (text left old new : Option (List ℕ)) (r : Refusal) (result : Status) (e e' : Option (List ℕ)) (n n' : ℕ) → IsServed words → IsCause w text left old new r → result ≡ status_of r → Says e e' n n' (line_of r)
-    → Ended w words text left old new result e e' n n'
-refused_by w words text left old new (refusal.Deck fault) result e e' n n' served cause status says = (Err (refusal.Deck fault), status, (served, cause), says)
-refused_by w words text left old new refusal.Read result e e' n n' served cause status says = (Err refusal.Read, status, (served, cause), says)
-refused_by w words text left old new refusal.Write result e e' n n' served cause status says = (Err refusal.Write, status, (served, cause), says)
-refused_by w words text left old new refusal.Memory result e e' n n' served cause status says = (Err refusal.Memory, status, inl (served, cause), says)
-refused_by w words text left old new refusal.Usage result e e' n n' served cause status says = absurd cause
-refused_by w words text left old new (refusal.Overflow here) result e e' n n' served cause status says = (Err (refusal.Overflow here), status, (served, cause), says)
-refused_by w words text left old new (refusal.Budget k) result e e' n n' served cause status says = (Err (refusal.Budget k), status, (served, cause), says)
-
-pub ended_refused : (w : ℕ) (words : List (List ℕ)) (text left old new : Option (List ℕ)) (r : Refusal) (result : Status) (e e' : Option (List ℕ)) (n n' : ℕ) → IsServed words → IsCause w text left old new r → Said r result e e' n n'
-    → Ended w words text left old new result e e' n n'
-ended_refused w words text left old new r result e e' n n' served cause (said, inl is, status, says) =
-    refused_by w words text left old new r result e e' n n' served cause (status ∙ ap status_of is) (subst (λ r. Says e e' n n' (line_of r)) is says)
-ended_refused w words text left old new r result e e' n n' served cause (said, inr is, status, says) =
-    (Err refusal.Memory, status ∙ ap status_of is, inl (served, memory_in_place w text left old new r cause), subst (λ r. Says e e' n n' (line_of r)) is says)
+memory_leaves : (what : Option Asked) (w : ℕ) (input input' output output' : Stream) (r : Refusal)
+    → LeavesBy what w input input' output output' (Err r) → LeavesBy what w input input' output output' (Err refusal.Memory)
+memory_leaves None w input input' output output' r leaves = (inr refl, leaves.1, leaves.2)
+memory_leaves (Some asked) w input input' output output' r cause = memory_in_place asked w input.bytes input'.bytes output.bytes output'.bytes r cause
 
 -- ── which end failed ──
 
--- what was said has the refusal's status, or that of want of memory
-pub said_status : (r : Refusal) (result : Status) (e e' : Option (List ℕ)) (n n' : ℕ) → Said r result e e' n n' → IsOrMemory result (status_of r)
-said_status r result e e' n n' (said, inl is, status, says) = inl (status ∙ ap status_of is)
-said_status r result e e' n n' (said, inr is, status, says) = inr (status ∙ ap status_of is)
-
 -- another refusal than that of a failure leaves the count, and has another status
-pub not_failed : (failure s s' : Status) (Cause : Type 0) (count count' : ℕ) → s' ≢ failure → status.Memory ≢ failure → count' ≡ count → IsOrMemory s s' → FailsBy failure Cause count count' s
-not_failed failure s s' Cause count count' other no_memory stays (inl is) = inl (stays, λ e. other (sym is ∙ e))
-not_failed failure s s' Cause count count' other no_memory stays (inr is) = inl (stays, λ e. no_memory (sym is ∙ e))
+not_failed : (failure s s' : Status) (Cause : Type 0) (old new : Stream) → s' ≢ failure → status.Memory ≢ failure → new.faults ≡ old.faults → IsOrMemory s s' → FailsBy failure Cause old new s
+not_failed failure s s' Cause old new other no_memory stays (inl is) = inl (stays, λ e. other (sym is ∙ e))
+not_failed failure s s' Cause old new other no_memory stays (inr is) = inl (stays, λ e. no_memory (sym is ∙ e))
 
-module _ (w : ℕ) (text left old new : Option (List ℕ)) (s : Status) (count count' : ℕ) where
-  pub reads_by : (r : Refusal) → IsCause w text left old new r → (IsErrOf {T = Unit {0}} (Err r) refusal.Read → Rose count count') → (¬ IsErrOf {T = Unit {0}} (Err r) refusal.Read → count' ≡ count)
-      → IsOrMemory s (status_of r) → ReadsBy text left count count' s
-  reads_by refusal.Read cause rose stays is = inr (rose refl, cause.0, is)
-  reads_by r cause rose stays is = not_failed status.ReadFault s (status_of r) (IfSome text (IsCutOff left)) count count' (λ e. cc) (λ e. cc) (stays (λ e. cc)) is
+-- what was said has the refusal's status, or that of want of memory
+said_status : (r : Refusal) (s : Status) (old new : Stream) → Said r s old new → IsOrMemory s (status_of_refusal r)
+said_status r s old new (said, inl is, status, says) = inl (status ∙ ap status_of_refusal is)
+said_status r s old new (said, inr is, status, says) = inr (status ∙ ap status_of_refusal is)
 
-  pub writes_by : (r : Refusal) → IsCause w text left old new r → (IsErrOf {T = Unit {0}} (Err r) refusal.Write → Rose count count') → (¬ IsErrOf {T = Unit {0}} (Err r) refusal.Write → count' ≡ count)
-      → IsOrMemory s (status_of r) → WritesBy text old new count count' s
-  writes_by refusal.Write cause rose stays is = inr (rose refl, cause, is)
-  writes_by r cause rose stays is = not_failed status.WriteFault s (status_of r) (IfSome text (BeginsReport old new)) count count' (λ e. cc) (λ e. cc) (stays (λ e. cc)) is
+module _ (w : ℕ) (input input' output output' : Stream) (s : Status) where
+  reads_by : (what : Option Asked) (r : Refusal) → LeavesBy what w input input' output output' (Err r)
+      → (IsErrOf {T = Unit {0}} (Err r) refusal.Read → Rose input.faults input'.faults) → (¬ IsErrOf {T = Unit {0}} (Err r) refusal.Read → input'.faults ≡ input.faults)
+      → IsOrMemory s (status_of_refusal r) → ReadsBy input input' s
+  reads_by (Some asked) refusal.Read cause rose stays is = inr (rose refl, cause.0, is)
+  reads_by None refusal.Read (inl same, read, written) rose stays is = absurd (cc same)
+  reads_by None refusal.Read (inr same, read, written) rose stays is = absurd (cc same)
+  reads_by what r leaves rose stays is =
+      not_failed status.ReadFault s (status_of_refusal r) (IfSome input.bytes (IsCutOff input'.bytes)) input input' (λ e. cc) (λ e. cc) (stays (λ e. cc)) is
+
+  writes_by : (asked : Asked) (r : Refusal) → IsCause asked w input.bytes input'.bytes output.bytes output'.bytes r
+      → (IsErrOf {T = Unit {0}} (Err r) refusal.Write → Rose output.faults output'.faults) → (¬ IsErrOf {T = Unit {0}} (Err r) refusal.Write → output'.faults ≡ output.faults)
+      → IsOrMemory s (status_of_refusal r) → WritesBy asked input.bytes output output' s
+  writes_by asked refusal.Write cause rose stays is = inr (rose refl, cause, is)
+  writes_by asked r cause rose stays is =
+      not_failed status.WriteFault s (status_of_refusal r) (IfSome input.bytes (BeginsReport asked output.bytes output'.bytes)) output output' (λ e. cc) (λ e. cc) (stays (λ e. cc)) is
 
 -- ── the status of each text ──
 
@@ -102,25 +92,26 @@ named (deck.NoEnd n) P h = (no_end n, h, refl)
 named (deck.CrossedBounds name) P h = (crossed_bounds name, h, refl)
 
 -- what standard error has of a line is Said
-module _ (w : ℕ) (SaidOf : List ℕ → Type 0) where
+module _ (asked : Asked) (w : ℕ) (SaidOf : List ℕ → Type 0) where
   -- the text may answer this status
-  abbrev pub May : List ℕ → Status → Type 0
-  May t s = Answers w (reading_of t) s SaidOf
+  abbrev May : List ℕ → Status → Type 0
+  May t s = Answers asked w (reading_of t) s SaidOf
 
   -- what the deck of a text may answer, the text may
-  for_reading : (reading : Reading) (d : Deck) (line : ℕ) (s : Status) → reading ≡ is_deck d line → (EndsWithin d → RunFits w (instance_of d) → IsOrMemory s status.Done) → Answers w reading s SaidOf
+  for_reading : (reading : Reading) (d : Deck) (line : ℕ) (s : Status) → reading ≡ is_deck d line
+      → (EndsWithin asked.budget d → RunFits w (instance_of d) → IsOrMemory s status.Done) → Answers asked w reading s SaidOf
   for_reading (has_fault fault) d line s e h = absurd (cc e)
-  for_reading (is_deck d' k) d line s e h = subst (λ d. EndsWithin d → RunFits w (instance_of d) → IsOrMemory s status.Done) (sym (same_deck d' d k line e)) h
+  for_reading (is_deck d' k) d line s e h = subst (λ d. EndsWithin asked.budget d → RunFits w (instance_of d) → IsOrMemory s status.Done) (sym (same_deck d' d k line e)) h
 
-  pub answered_done : (text old new : Option (List ℕ)) → IfSome text (Reports old new) → IfSome text (λ t. May t status.Done)
+  answered_done : (text old new : Option (List ℕ)) → IfSome text (Reports asked old new) → IfSome text (λ t. May t status.Done)
   answered_done None old new h = tt
-  answered_done (Some t) old new (d, line, log, o, read, is, appended) = for_reading (reading_of t) d line status.Done read (λ has fits. inl refl)
+  answered_done (Some t) old new (report, (d, line, log, o, last, read, solved, run, is), appended) = for_reading (reading_of t) d line status.Done read (λ has fits. inl refl)
 
-  answers_memory : (reading : Reading) → Answers w reading status.Memory SaidOf
+  answers_memory : (reading : Reading) → Answers asked w reading status.Memory SaidOf
   answers_memory (has_fault fault) = inr refl
   answers_memory (is_deck d k) = λ has fits. inr refl
 
-  answers_fault : (reading : Reading) (fault : TextFault) → reading ≡ has_fault fault → SaidOf (fault_line fault) → Answers w reading status.BadInput SaidOf
+  answers_fault : (reading : Reading) (fault : TextFault) → reading ≡ has_fault fault → SaidOf (fault_line fault) → Answers asked w reading status.BadInput SaidOf
   answers_fault (has_fault fault') fault e says = inl (refl, subst (λ f. SaidOf (fault_line f)) (sym (same_fault fault' fault e)) says)
   answers_fault (is_deck d k) fault e says = absurd (cc e)
 
@@ -128,22 +119,22 @@ module _ (w : ℕ) (SaidOf : List ℕ → Type 0) where
   answered_fault None fault h says = tt
   answered_fault (Some t) fault h says = let k = named fault (HasFault t) h in answers_fault (reading_of t) k.0 k.1 (subst SaidOf k.2 says)
 
-  answered_overflow : (text : Option (List ℕ)) (here : Place) → IfSome text (IsOverflow w here) → IfSome text (λ t. May t status.Overflow)
+  answered_overflow : (text : Option (List ℕ)) (here : Place) → IfSome text (IsOverflow asked w here) → IfSome text (λ t. May t status.Overflow)
   answered_overflow None here h = tt
   answered_overflow (Some t) here (d, line, read, overflows) =
-      for_reading (reading_of t) d line status.Overflow read (λ has fits. absurd (not_unfit (instance_of d) w budget here fits overflows))
+      for_reading (reading_of t) d line status.Overflow read (λ has fits. absurd (not_unfit (instance_of d) w asked.budget here fits overflows))
 
-  answered_budget : (text : Option (List ℕ)) (n : ℕ) → IfSome text (IsOverBudget n) → IfSome text (λ t. May t status.Budget)
+  answered_budget : (text : Option (List ℕ)) (n : ℕ) → IfSome text (IsOverBudget asked n) → IfSome text (λ t. May t status.Budget)
   answered_budget None n h = tt
   answered_budget (Some t) n (same, d, line, read, spent, short) =
-      for_reading (reading_of t) d line status.Budget read (λ has fits. absurd (not_spent (instance_of d) has.0 has.1 has.2 budget has.3 spent))
+      for_reading (reading_of t) d line status.Budget read (λ has fits. absurd (not_spent (instance_of d) has.0 has.1 has.2 asked.budget has.3 spent))
 
   answered_memory : (text : Option (List ℕ)) → IfSome text (λ t. May t status.Memory)
   answered_memory None = tt
   answered_memory (Some t) = answers_memory (reading_of t)
 
-  by_refusal : (text left old new : Option (List ℕ)) (r : Refusal) (A B : Type 0) → IsCause w text left old new r → SaidOf (line_of r)
-      → (r ≡ refusal.Read → A) → (r ≡ refusal.Write → B) → (¬ A) → (¬ B) → IfSome text (λ t. May t (status_of r))
+  by_refusal : (text left old new : Option (List ℕ)) (r : Refusal) (A B : Type 0) → IsCause asked w text left old new r → SaidOf (line_of r)
+      → (r ≡ refusal.Read → A) → (r ≡ refusal.Write → B) → (¬ A) → (¬ B) → IfSome text (λ t. May t (status_of_refusal r))
   by_refusal text left old new (refusal.Deck fault) A B cause says read write no_read no_write = answered_fault text fault cause.0 says
   by_refusal text left old new refusal.Read A B cause says read write no_read no_write = absurd (no_read (read refl))
   by_refusal text left old new refusal.Write A B cause says read write no_read no_write = absurd (no_write (write refl))
@@ -152,10 +143,65 @@ module _ (w : ℕ) (SaidOf : List ℕ → Type 0) where
   by_refusal text left old new (refusal.Overflow here) A B cause says read write no_read no_write = answered_overflow text here cause.0
   by_refusal text left old new (refusal.Budget k) A B cause says read write no_read no_write = answered_budget text k cause.0
 
-pub answered_refused : (w : ℕ) (text left old new : Option (List ℕ)) (r : Refusal) (result : Status) (e e' : Option (List ℕ)) (n n' : ℕ) (A B : Type 0) → IsCause w text left old new r
-    → (IsErrOf {T = Unit {0}} (Err r) refusal.Read → A) → (IsErrOf {T = Unit {0}} (Err r) refusal.Write → B) → Said r result e e' n n' → (¬ A) → (¬ B) → IfSome text (λ t. Answers w (reading_of t) result (Says e e' n n'))
-answered_refused w text left old new r result e e' n n' A B cause read write (said, inl is, status, says) no_read no_write =
-    subst (λ s. IfSome text (λ t. Answers w (reading_of t) s (Says e e' n n'))) (sym (status ∙ ap status_of is))
-    (by_refusal w (Says e e' n n') text left old new r A B cause (subst (λ r. Says e e' n n' (line_of r)) is says) (λ same. read (ap Err same)) (λ same. write (ap Err same)) no_read no_write)
-answered_refused w text left old new r result e e' n n' A B cause read write (said, inr is, status, says) no_read no_write =
-    subst (λ s. IfSome text (λ t. Answers w (reading_of t) s (Says e e' n n'))) (sym (status ∙ ap status_of is)) (answered_memory w (Says e e' n n') text)
+-- ── a call ──
+
+module _ (w : ℕ) (input input' output output' : Stream) (needed : IsReadAsNeeded [] input.bytes input'.bytes) (in_falls : input.faults ≤ input'.faults)
+    (out_falls : output.faults ≤ output'.faults) where
+  -- a report was written
+  pub runs_done : (what : Option Asked) (errors : Stream) → LeavesBy what w input input' output output' (Ok tt) → input'.faults ≡ input.faults → output'.faults ≡ output.faults
+      → Runs what w (world input output errors) (world input' output' errors) status.Done
+  runs_done None errors (inl same, read, written) reads writes = absurd (cc same)
+  runs_done None errors (inr same, read, written) reads writes = absurd (cc same)
+  runs_done (Some asked) errors leaves reads writes = record {
+    ends = (Ok tt, refl, leaves, refl);
+    needed = needed;
+    input_never_falls = in_falls;
+    output_never_falls = out_falls;
+    reads = inl (reads, λ e. cc);
+    writes = inl (writes, λ e. cc);
+    answered = λ no_read no_write. answered_done asked w (Says errors errors) input.bytes output.bytes output'.bytes leaves;
+  }
+
+  module _ (r : Refusal) (rose_in : IsErrOf {T = Unit {0}} (Err r) refusal.Read → Rose input.faults input'.faults)
+      (stays_in : ¬ IsErrOf {T = Unit {0}} (Err r) refusal.Read → input'.faults ≡ input.faults)
+      (rose_out : IsErrOf {T = Unit {0}} (Err r) refusal.Write → Rose output.faults output'.faults) (stays_out : ¬ IsErrOf {T = Unit {0}} (Err r) refusal.Write → output'.faults ≡ output.faults)
+      (s : Status) (errors errors' : Stream) where
+    -- the end that was said
+    said_end : (what : Option Asked) → LeavesBy what w input input' output output' (Err r) → Said r s errors errors'
+        → (end : End) × (s ≡ status_of_end end) × LeavesBy what w input input' output output' end × SaysBy errors errors' end
+    said_end what leaves (said, inl is, status, says) = (Err r, status ∙ ap status_of_refusal is, leaves, subst (λ r. Says errors errors' (line_of r)) is says)
+    said_end what leaves (said, inr is, status, says) =
+        (Err refusal.Memory, status ∙ ap status_of_refusal is, memory_leaves what w input input' output output' r leaves, subst (λ r. Says errors errors' (line_of r)) is says)
+
+    answered_refused : (asked : Asked) → IsCause asked w input.bytes input'.bytes output.bytes output'.bytes r → Said r s errors errors'
+        → (¬ Rose input.faults input'.faults) → (¬ Rose output.faults output'.faults) → IfSome input.bytes (λ text. Answers asked w (reading_of text) s (Says errors errors'))
+    answered_refused asked cause (said, inl is, status, says) no_read no_write =
+        subst (λ s. IfSome input.bytes (λ t. Answers asked w (reading_of t) s (Says errors errors'))) (sym (status ∙ ap status_of_refusal is))
+        (by_refusal asked w (Says errors errors') input.bytes input'.bytes output.bytes output'.bytes r (Rose input.faults input'.faults) (Rose output.faults output'.faults) cause
+        (subst (λ r. Says errors errors' (line_of r)) is says) (λ same. rose_in (ap Err same)) (λ same. rose_out (ap Err same)) no_read no_write)
+    answered_refused asked cause (said, inr is, status, says) no_read no_write =
+        subst (λ s. IfSome input.bytes (λ t. Answers asked w (reading_of t) s (Says errors errors'))) (sym (status ∙ ap status_of_refusal is))
+        (answered_memory asked w (Says errors errors') input.bytes)
+
+    -- a refusal was said
+    pub runs_refused : (what : Option Asked) → LeavesBy what w input input' output output' (Err r) → Said r s errors errors'
+        → Runs what w (world input output errors) (world input' output' errors') s
+    runs_refused what leaves said = record {
+      ends = said_end what leaves said;
+      needed = needed;
+      input_never_falls = in_falls;
+      output_never_falls = out_falls;
+      reads = reads_by w input input' output output' s what r leaves rose_in stays_in (said_status r s errors errors' said);
+      writes = writes what leaves;
+      answered = answers what leaves;
+    }
+      where
+        writes : (what : Option Asked) → LeavesBy what w input input' output output' (Err r) → IfSome what (λ asked. WritesBy asked input.bytes output output' s)
+        writes None leaves = tt
+        writes (Some asked) cause = writes_by w input input' output output' s asked r cause rose_out stays_out (said_status r s errors errors' said)
+
+        answers : (what : Option Asked) → LeavesBy what w input input' output output' (Err r)
+            → IfSome what (λ asked. ¬ Rose input.faults input'.faults → ¬ Rose output.faults output'.faults
+            → IfSome input.bytes (λ text. Answers asked w (reading_of text) s (Says errors errors')))
+        answers None leaves = tt
+        answers (Some asked) cause = answered_refused asked cause said

@@ -1,4 +1,4 @@
-pub mod ThreeWords
 pub mod Reporting
 pub mod Solving
 pub mod Ending
+pub mod LastStates

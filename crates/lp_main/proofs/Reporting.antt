@@ -1,5 +1,6 @@
 -- From what the solver answers to what a report, or a refusal, says of the deck.
-use Rattle.std.proofs.Common.{◌≡◌, ℕ, List, length, None, Some, refl, sym, ◌∙◌, ap, subst}
+use Rattle.std.proofs.Common.{◌≡◌, ℕ, List, length, Some, refl, sym, ◌∙◌, ap, subst}
+use Rattle.std.specs.Prelude.{IfErr, IfOk, MatchResult, Result, Ok, Err}
 use Rattle.std.proofs.lemmas.List.{length-map}
 use Rattle.lp_model.specs.declared.Place.{Place}
 use Rattle.lp_model.specs.declared.Sense.{Sense}
@@ -8,9 +9,11 @@ use Rattle.lp_model.specs.Deck.{Deck, IsDeck}
 use Rattle.lp_model.specs.Outcome.{Outcome, infeasible, optimal, unbounded}
 use Rattle.rational.specs.Rational.{ℚ, neg_ℚ}
 use Rattle.rational.proofs.VectorLaws.{length-map-upto}
-use Rattle.lp_run.specs.Ends.{Gives, HasOutcome, by_position, point, prices_in, ray}
+use Rattle.lp_run.specs.Ends.{Yields, HasOutcome, by_position, point, prices_in, ray}
 use Rattle.lp_run.specs.Instance.{Instance, instance_of, row_count, structural_count}
 use Rattle.lp_run.specs.Listing.{Overflows, first_unfit, start_listing}
+use Rattle.lp_run.specs.Run.{IsRun}
+use Rattle.lp_run.specs.State.{State}
 use Rattle.bland_laws.specs.OutcomeProves.{OutcomeProves}
 use Rattle.bland_laws.proofs.OfDeck.{row_count_is, structural_count_is, well_formed}
 use Rattle.bland_laws.proofs.OutcomeProves.{outcome_proves}
@@ -18,14 +21,17 @@ use Rattle.lp_laws.proofs.WeakDuality.{weak}
 use Rattle.lp_laws.proofs.FarkasGap.{gap}
 use Rattle.lp_laws.proofs.AlongRays.{endless}
 use Rattle.deck_model.specs.Outcome.{HasLengthsOf, outcome_of}
-use Rattle.cert_text.specs.declared.report.Report.{Report}
+use Rattle.lp_text.specs.Report.{Report}
 use Rattle.crew.specs.declared.closing.Closed.{Closed}
 use Rattle.crew.specs.declared.faults.CrewFault.{CrewFault}
 use Rattle.crew.specs.declared.faults.CrewFault.TheVariants as fault
 use Rattle.crew.specs.Answers.{HasClosed, IsCause as IsCrewCause}
 use Rattle.crew.proofs.Complete.{spent_below, start_overflows}
+use Rattle.plain_table.specs.Answers.{IsRunLog}
+use Rattle.lp_main.specs.declared.refusal.Refusal.{Refusal}
 use Rattle.lp_main.specs.declared.refusal.Refusal.TheVariants as refusal
-use Rattle.lp_main.specs.Serves.{IsSolved, Means, budget}
+use Rattle.lp_main.specs.declared.words.Asked.{Asked}
+use Rattle.lp_main.specs.Serves.{IsSolved, Means, stated}
 use Rattle.lp_main.specs.Solves.{IsReportCause, IsReportOf}
 
 -- ── the outcome's lists ──
@@ -34,6 +40,20 @@ use Rattle.lp_main.specs.Solves.{IsReportCause, IsReportOf}
 prices_length : (s : Sense) (y : List ℚ) → length (prices_in s y) ≡ length y
 prices_length sense.Min y = refl
 prices_length sense.Max y = length-map y neg_ℚ
+
+-- the log of what a run comes to is a run
+pub closed_run : (inst : Instance) (closed : Closed) (budget : ℕ) → HasClosed inst budget closed → IsRunLog inst closed.log
+closed_run inst closed budget has = (has.outcome.0, has.outcome.1)
+
+-- what the making of a report answers
+abbrev pub Reported : Asked → Instance → Closed → Result Report Refusal → Type 0
+Reported asked inst closed result =
+    MatchResult result (λ report. (last : State) × IsRun inst closed.log last × (report ≡ stated asked closed.log (outcome_of closed.outcome) last)) (λ e. e ≡ refusal.Memory)
+
+pub report_or_memory : (asked : Asked) (inst : Instance) (closed : Closed) (w : ℕ) (d : Deck) (result : Result Report Refusal) → Reported asked inst closed result
+    → IfErr result (IsReportCause asked w d)
+report_or_memory asked inst closed w d (Ok report) h = tt
+report_or_memory asked inst closed w d (Err e) h = subst (IsReportCause asked w d) (sym h) tt
 
 module _ (d : Deck) (deck : IsDeck d) where
   -- a number for each column, and for each row
@@ -56,24 +76,35 @@ module _ (d : Deck) (deck : IsDeck d) where
 
   -- ── what the solver answers of the deck's instance ──
 
-  pub report_is : (inst : Instance) → inst ≡ instance_of d → (closed : Closed) (report : Report) → HasClosed inst budget closed → report.outcome ≡ closed.outcome → report.log ≡ None → IsReportOf d report
-  report_is inst same closed report has is no_log =
-      let outcome = subst (λ inst. HasOutcome inst closed.log (outcome_of report.outcome)) same (subst (λ o. HasOutcome inst closed.log (outcome_of o)) (sym is) has.outcome) in
-      let proves = outcome_proves d deck closed.log (outcome_of report.outcome) outcome in
-      record {
+  report_there : (asked : Asked) (inst : Instance) → inst ≡ instance_of d → (closed : Closed) → HasClosed inst asked.budget closed → (last : State) → IsRun inst closed.log last
+      → (report : Report) → report ≡ stated asked closed.log (outcome_of closed.outcome) last → IsReportOf asked d report
+  report_there asked inst same closed has last run report is =
+      let o = outcome_of closed.outcome in
+      let outcome = subst (λ inst. HasOutcome inst closed.log o) same has.outcome in
+      let proves = outcome_proves d deck closed.log o outcome in
+      subst (IsReportOf asked d) (sym is)
+      (record {
         log = closed.log;
-        solved = record { outcome = outcome; within = has.within; proves = proves; means = means (outcome_of report.outcome) proves };
-        lengths = lengths_are (outcome_of report.outcome) closed.log outcome;
-        no_log = no_log;
-      }
+        last = last;
+        solved = record { outcome = outcome; within = has.within; proves = proves; means = means o proves };
+        run = subst (λ inst. IsRun inst closed.log last) same run;
+        is = refl;
+        lengths = lengths_are o closed.log outcome;
+      })
 
-  pub overflow_cause : (w : ℕ) (inst : Instance) → inst ≡ instance_of d → (here : Place) → Overflows w budget inst here → IsReportCause w d (refusal.Overflow here)
-  overflow_cause w inst same here h = subst (λ inst. Overflows w budget inst here) same h
+  pub report_is : (asked : Asked) (inst : Instance) → inst ≡ instance_of d → (closed : Closed) → HasClosed inst asked.budget closed
+      → (result : Result Report Refusal) → Reported asked inst closed result → IfOk result (IsReportOf asked d)
+  report_is asked inst same closed has (Ok report) (last, run, is) = report_there asked inst same closed has last run report is
+  report_is asked inst same closed has (Err e) h = tt
 
-  pub budget_cause : (w : ℕ) (inst : Instance) → inst ≡ instance_of d → (n : ℕ) → IsCrewCause w inst budget (fault.Budget n) → IsReportCause w d (refusal.Budget n)
-  budget_cause w inst same n h =
-      let there = subst (λ inst. IsCrewCause w inst budget (fault.Budget n)) same h in
-      (there.0, there.1, spent_below (instance_of d) (well_formed d deck) budget there.1)
+  module _ (asked : Asked) (w : ℕ) (inst : Instance) (same : inst ≡ instance_of d) where
+    pub overflow_cause : (here : Place) → Overflows w asked.budget inst here → IsReportCause asked w d (refusal.Overflow here)
+    overflow_cause here h = subst (λ inst. Overflows w asked.budget inst here) same h
 
-  pub start_cause : (w : ℕ) (here : Place) → first_unfit w (start_listing (instance_of d)) ≡ Some here → IsReportCause w d (refusal.Overflow here)
-  start_cause w here first = start_overflows w budget (instance_of d) here (well_formed d deck) first
+    pub budget_cause : (n : ℕ) → IsCrewCause w inst asked.budget (fault.Budget n) → IsReportCause asked w d (refusal.Budget n)
+    budget_cause n h =
+        let there = subst (λ inst. IsCrewCause w inst asked.budget (fault.Budget n)) same h in
+        (there.0, there.1, spent_below (instance_of d) (well_formed d deck) asked.budget there.1)
+
+  pub start_cause : (asked : Asked) (w : ℕ) (here : Place) → first_unfit w (start_listing (instance_of d)) ≡ Some here → IsReportCause asked w d (refusal.Overflow here)
+  start_cause asked w here first = start_overflows w asked.budget (instance_of d) here (well_formed d deck) first

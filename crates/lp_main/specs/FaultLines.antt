@@ -1,7 +1,7 @@
 -- The line of each fault of a deck.
 use Rattle.std.specs.Prelude.{ℕ, List, [], ◌++◌, Some, None, codes}
 use Rattle.std.specs.Fmt.{decimal}
-use Rattle.lp_text.specs.Refusals.{ended, memory_line, read_line}
+use Rattle.lp_main.specs.Refusals.{ended, memory_line, read_line}
 use Rattle.lp_text.specs.declared.Counted.{Counted}
 use Rattle.lp_text.specs.declared.Counted.TheVariants as counted
 use Rattle.lp_text.specs.declared.LineFault.{LineFault}

@@ -1,8 +1,12 @@
+pub mod World
 pub mod Codes
+pub mod Refusals
 pub mod Says
 pub mod FaultLines
 pub mod Overflow
 pub mod Refusal
+pub mod Words
 pub mod Serves
 pub mod Solves
 pub mod Ends
+pub mod Runs

@@ -4,7 +4,7 @@ use Rattle.std.specs.Fmt.{decimal}
 use Rattle.lp_model.specs.declared.Kind.{Kind}
 use Rattle.lp_model.specs.declared.Kind.TheVariants as kind
 use Rattle.lp_model.specs.declared.Place.{Place}
-use Rattle.lp_text.specs.Refusals.{ended}
+use Rattle.lp_main.specs.Refusals.{ended}
 
 abbrev pub kind_word : Kind → List ℕ
 kind_word kind.Start = codes "start"

@@ -6,16 +6,16 @@ use Rattle.lp_main.specs.declared.status.Status.{Status}
 use Rattle.lp_main.specs.declared.status.Status.TheVariants as status
 use Rattle.lp_main.specs.FaultLines.{reader_line}
 use Rattle.lp_main.specs.Overflow.{overflow_line}
-use Rattle.lp_text.specs.Refusals.{budget_line, memory_line, read_line, usage_line, write_line}
+use Rattle.lp_main.specs.Refusals.{budget_line, memory_line, read_line, usage_line, write_line}
 
-abbrev pub status_of : Refusal → Status
-status_of refusal.Usage = status.Usage
-status_of (refusal.Deck fault) = status.BadInput
-status_of refusal.Read = status.ReadFault
-status_of refusal.Write = status.WriteFault
-status_of (refusal.Overflow here) = status.Overflow
-status_of (refusal.Budget n) = status.Budget
-status_of refusal.Memory = status.Memory
+abbrev pub status_of_refusal : Refusal → Status
+status_of_refusal refusal.Usage = status.Usage
+status_of_refusal (refusal.Deck fault) = status.BadInput
+status_of_refusal refusal.Read = status.ReadFault
+status_of_refusal refusal.Write = status.WriteFault
+status_of_refusal (refusal.Overflow here) = status.Overflow
+status_of_refusal (refusal.Budget n) = status.Budget
+status_of_refusal refusal.Memory = status.Memory
 
 abbrev pub line_of : Refusal → List ℕ
 line_of refusal.Usage = usage_line

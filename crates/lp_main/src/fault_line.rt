@@ -1,7 +1,7 @@
 // The lines of the faults of a deck.
 ghost use Rattle.std.specs.Prelude.{◌≡◌, ◌++◌, IfOk, codes};
 ghost use Rattle.std.specs.Fmt.{decimal};
-ghost use Rattle.lp_text.specs.Refusals.{ended};
+ghost use Rattle.lp_main.specs.Refusals.{ended};
 ghost use Rattle.mps_model.specs.DeckOf.{crossed_bounds, in_line};
 ghost use Rattle.lp_main.specs.FaultLines.{fault_line, limit_words, reader_line};
 

@@ -23,6 +23,7 @@ use std::process::ExitCode;
 use std::rt::Env;
 
 mod fault_line;
+mod last_basis;
 mod overflow_line;
 mod refusal;
 mod solve;

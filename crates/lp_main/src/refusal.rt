@@ -1,7 +1,8 @@
 // Why the program refuses, and the line that says so.
 ghost use Rattle.std.specs.Prelude.{◌≡◌, ◌≤◌, ◌⊎◌, IfOk};
-ghost use Rattle.lp_main.specs.Refusal.{line_of, status_of};
+ghost use Rattle.lp_main.specs.Refusal.{line_of, status_of_refusal};
 ghost use Rattle.lp_main.specs.Says.{Says};
+ghost use Rattle.lp_main.specs.World.{stream};
 
 use crate::fault_line::{fault_line, numbered, whole_line};
 use crate::overflow_line::overflow_line;
@@ -33,7 +34,7 @@ pub enum Refusal {
 impl Refusal {
     /// The status that goes with the refusal.
     pub fn status(&self) -> Status
-        ensures { result ≡ status_of self.now }
+        ensures { result ≡ status_of_refusal self.now }
     {
         match self {
             Refusal::Usage => Status::Usage,
@@ -53,7 +54,7 @@ impl Refusal {
         match self {
             Refusal::Usage => whole_line(
                 alloc,
-                "lp: usage: lp solve [--workers W] [--reinverters R] [--budget N] [--log] or check or deck or make N",
+                "lp: usage: lp solve [--free] [--workers W] [--reinverters R] [--budget N] [--log] [--report V] or check [--free] or deck [--free] or make N",
             ),
             Refusal::Deck(fault) => fault_line(alloc, fault),
             Refusal::Read => whole_line(alloc, "lp: read failed"),
@@ -67,7 +68,7 @@ impl Refusal {
 
 /// Writes a line to standard error, as far as it takes it.
 fn say<E: Sink>(err: &mut E, line: &[u8])
-    ensures says { Says (E.contents err.old) (E.contents err.new) (E.fault_count err.old) (E.fault_count err.new) line.now }
+    ensures says { Says (stream (E.contents err.old) (E.fault_count err.old)) (stream (E.contents err.new) (E.fault_count err.new)) line.now }
     ensures never_falls { E.fault_count err.old ≤ E.fault_count err.new }
 {
     let _ = write_all(err, line);
@@ -76,8 +77,8 @@ fn say<E: Sink>(err: &mut E, line: &[u8])
 /// Says why the program refuses, and answers the status. Where there is no memory for the line, the
 /// want of memory is the refusal.
 pub fn refuse<E: Sink>(refusal: &Refusal, alloc: Global, err: &mut E) -> Status
-    ensures said { (said : Refusal) × ((said ≡ refusal.now) ⊎ (said ≡ Refusal.Memory)) × (result ≡ status_of said)
-        × Says (E.contents err.old) (E.contents err.new) (E.fault_count err.old) (E.fault_count err.new) (line_of said) }
+    ensures said { (said : Refusal) × ((said ≡ refusal.now) ⊎ (said ≡ Refusal.Memory)) × (result ≡ status_of_refusal said)
+        × Says (stream (E.contents err.old) (E.fault_count err.old)) (stream (E.contents err.new) (E.fault_count err.new)) (line_of said) }
     ensures never_falls { E.fault_count err.old ≤ E.fault_count err.new }
 {
     match refusal.line(alloc) {

@@ -1,18 +1,24 @@
 // A solve from a source to a sink.
-ghost use Rattle.std.specs.Prelude.{◌≡◌, ◌≤◌, [], IfOk, IfSome, IfErr, OnOk, IsErrOf};
+ghost use Rattle.std.specs.Prelude.{◌≡◌, ◌≤◌, [], IfOk, IfSome, IfErr, OnOk, IsErrOf, MatchResult};
 ghost use Rattle.io_ends.specs.Bytes.{Appends, AppendsPrefix};
 ghost use Rattle.io_ends.specs.Count.{Rose};
-ghost use Rattle.cert_text.specs.Report.{text_of_report};
+ghost use Rattle.lp_text.specs.Report.{text_of_report};
+ghost use Rattle.deck_model.specs.Outcome.{HasLengthsOf, outcome_of};
+ghost use Rattle.plain_table.specs.Answers.{IsRunLog};
+ghost use Rattle.lp_run.specs.Run.{IsRun};
+ghost use Rattle.lp_run.specs.State.{State};
 ghost use Rattle.lp_model.specs.Deck.{IsDeck};
-ghost use Rattle.lp_run.specs.Instance.{instance_of};
+ghost use Rattle.lp_run.specs.Instance.{IsWellFormed, instance_of};
 ghost use Rattle.lp_run.specs.Listing.{StartFits};
 ghost use Rattle.mps_reader.specs.Answers.{IsReadAsNeeded};
-ghost use Rattle.lp_main.specs.Serves.{Reports};
+ghost use Rattle.lp_main.specs.Serves.{Reports, stated};
 ghost use Rattle.lp_main.specs.Solves.{IsCause, IsRead, IsReadingCause, IsReportCause, IsReportOf, IsWriteCause, refusal_of};
 
+use crate::last_basis::told_basis;
 use crate::refusal::Refusal;
+use crate::words::Asked;
 use cert_text::{Report, ReportWriteFault, write_report};
-use crew::{CrewFault, solve_alone};
+use crew::{Closed, CrewFault, solve_alone};
 use deck_model::Deck;
 use exact_frac::Arith;
 use instance_model::{Instance, InstanceFault};
@@ -20,9 +26,7 @@ use io_ends::{Sink, Source};
 use mps_cards::LineReader;
 use mps_reader::{DeckFault, read_deck};
 use std::alloc::Global;
-
-/// How many moves a run may take.
-const BUDGET: u64 = 1_000_000;
+use std::thread::Threads;
 
 /// Why a solve refuses where the reader does.
 fn refusal_of(fault: DeckFault) -> Refusal
@@ -55,22 +59,30 @@ fn load<S: Source>(alloc: Global, source: &mut S) -> Result<Deck, Refusal>
 
 /// The report of a deck.
 #[tactic(auto, using(crate::proofs::Reporting::start_cause))]
-fn report_of<A: Arith>(alloc: Global, deck: &Deck, arith: &mut A) -> Result<Report, Refusal>
-    ensures report { IfOk result (IsReportOf deck.now) }
-    ensures cause { IfErr result (IsReportCause (A.width arith.old) deck.now) }
+fn report_of<R: Threads + Sync, A: Arith>(
+    rt: &R,
+    alloc: Global,
+    asked: Asked,
+    deck: &Deck,
+    arith: &mut A,
+) -> Result<Report, Refusal>
+    ensures report { IfOk result (IsReportOf asked deck.now) }
+    ensures cause { IfErr result (IsReportCause asked (A.width arith.old) deck.now) }
     ensures same_width { A.width arith.new ≡ A.width arith.old }
 {
     let _rows = deck.rows();
     match Instance::of(alloc, deck, arith) {
-        Ok(inst) => report_of_instance(alloc, deck, &inst, arith),
+        Ok(inst) => report_of_instance(rt, alloc, asked, deck, &inst, arith),
         Err(InstanceFault::Overflow(place)) => Err(Refusal::Overflow(place)),
         Err(InstanceFault::Memory) => Err(Refusal::Memory),
     }
 }
 
 /// The report of a deck by its instance.
-fn report_of_instance<A: Arith>(
+fn report_of_instance<R: Threads + Sync, A: Arith>(
+    rt: &R,
     alloc: Global,
+    asked: Asked,
     deck: &Deck,
     inst: &Instance,
     arith: &mut A,
@@ -78,24 +90,44 @@ fn report_of_instance<A: Arith>(
     requires deck { IsDeck deck.now }
     requires instance { inst.now ≡ instance_of deck.now }
     requires fits { StartFits (A.width arith.old) (instance_of deck.now) }
-    ensures report { IfOk result (IsReportOf deck.now) }
-    ensures cause { IfErr result (IsReportCause (A.width arith.old) deck.now) }
+    ensures report { IfOk result (IsReportOf asked deck.now) }
+    ensures cause { IfErr result (IsReportCause asked (A.width arith.old) deck.now) }
     ensures same_width { A.width arith.new ≡ A.width arith.old }
 {
-    match solve_alone(alloc, inst, BUDGET, arith) {
-        Ok(closed) => Ok(Report {
-            outcome: closed.outcome,
-            log: None,
-        }),
+    match solve_alone(rt, alloc, inst, asked.budget, arith) {
+        Ok(closed) => report_of_closed(alloc, asked, inst, closed),
         Err(CrewFault::Overflow(place)) => Err(Refusal::Overflow(place)),
         Err(CrewFault::Budget(moves)) => Err(Refusal::Budget(moves)),
         Err(CrewFault::Memory) => Err(Refusal::Memory),
     }
 }
 
+/// The report of what a run comes to.
+fn report_of_closed(
+    alloc: Global,
+    asked: Asked,
+    inst: &Instance,
+    closed: Closed,
+) -> Result<Report, Refusal>
+    requires formed { IsWellFormed inst.now }
+    requires run { IsRunLog inst.now closed.log }
+    ensures { MatchResult result
+        (λ report. (last : State) × IsRun inst.now closed.log last × (report ≡ stated asked closed.log (outcome_of closed.outcome) last))
+        (λ refusal. refusal ≡ Refusal.Memory) }
+{
+    let Ok(basis) = told_basis(alloc, asked.version, inst, &closed.log) else {
+        return Err(Refusal::Memory);
+    };
+    Ok(Report {
+        outcome: closed.outcome,
+        basis,
+        log: asked.log.then_some(closed.log),
+    })
+}
+
 /// Writes a report.
 fn write<K: Sink>(alloc: Global, deck: &Deck, report: &Report, out: &mut K) -> Result<(), Refusal>
-    requires { IsReportOf deck.now report.now }
+    requires { HasLengthsOf deck.now report.now.outcome }
     ensures written { OnOk result (Appends (K.contents out.old) (K.contents out.new) (text_of_report deck.now report.now)) }
     ensures cause { IfErr result IsWriteCause }
     ensures begun { AppendsPrefix (K.contents out.old) (K.contents out.new) (text_of_report deck.now report.now) }
@@ -110,15 +142,17 @@ fn write<K: Sink>(alloc: Global, deck: &Deck, report: &Report, out: &mut K) -> R
     }
 }
 
-/// Solves the deck of a source, and writes its report to a sink.
-pub fn solve<S: Source, K: Sink, A: Arith>(
+/// Solves the deck of a source, and writes the report that is asked for to a sink.
+pub fn solve<R: Threads + Sync, S: Source, K: Sink, A: Arith>(
+    rt: &R,
     alloc: Global,
+    asked: Asked,
     source: &mut S,
     out: &mut K,
     arith: &mut A,
 ) -> Result<(), Refusal>
-    ensures done { OnOk result (IfSome (S.remaining source.old) (Reports (K.contents out.old) (K.contents out.new))) }
-    ensures cause { IfErr result (IsCause (A.width arith.old) (S.remaining source.old) (S.remaining source.new) (K.contents out.old) (K.contents out.new)) }
+    ensures done { OnOk result (IfSome (S.remaining source.old) (Reports asked (K.contents out.old) (K.contents out.new))) }
+    ensures cause { IfErr result (IsCause asked (A.width arith.old) (S.remaining source.old) (S.remaining source.new) (K.contents out.old) (K.contents out.new)) }
     ensures needed { IsReadAsNeeded [] (S.remaining source.old) (S.remaining source.new) }
     ensures source_rose { IsErrOf result Refusal.Read → Rose (S.fault_count source.old) (S.fault_count source.new) }
     ensures source_stays { ¬ IsErrOf result Refusal.Read → S.fault_count source.new ≡ S.fault_count source.old }
@@ -128,12 +162,7 @@ pub fn solve<S: Source, K: Sink, A: Arith>(
     ensures sink_never_falls { K.fault_count out.old ≤ K.fault_count out.new }
     ensures same_width { A.width arith.new ≡ A.width arith.old }
 {
-    let deck = match load(alloc, source) {
-        Ok(deck) => deck,
-        Err(unread) => return Err(unread),
-    };
-    match report_of(alloc, &deck, arith) {
-        Ok(report) => write(alloc, &deck, &report, out),
-        Err(refusal) => Err(refusal),
-    }
+    let deck = load(alloc, source)?;
+    let report = report_of(rt, alloc, asked, &deck, arith)?;
+    write(alloc, &deck, &report, out)
 }

@@ -1,28 +1,45 @@
-// The words of a command.
-ghost use Rattle.std.specs.Prelude.{◌≡◌, ◌↔◌, IsTrue, map};
+// What is served of what the words of a command ask for.
+ghost use Rattle.std.specs.Prelude.{◌≡◌, IfErr, IfOk, Some, map};
 ghost use Rattle.std.specs.String.{string_bytes};
-ghost use Rattle.lp_text.specs.Words.{IsServed};
+ghost use Rattle.lp_words.specs.Words.{wish_of};
+ghost use Rattle.lp_main.specs.Words.{IsUnserved, asked_of};
 
-/// Whether a word is this text.
-fn is_word(word: &String, text: &str) -> bool
-    ensures { IsTrue result ↔ (string_bytes word.now ≡ text.now) }
-{
-    word.as_str() == text
+use crate::refusal::Refusal;
+use lp_words::{Wish, WordsFault, wish};
+use std::alloc::Global;
+
+/// What is asked of a solve.
+#[derive(Clone, Copy, Debug)]
+pub struct Asked {
+    /// How many moves the run may take.
+    pub budget: u64,
+    /// Whether the report tells the run's log.
+    pub log: bool,
+    /// The version of the report, 1 or 2; one of version 2 tells the last basis.
+    pub version: u32,
 }
 
-/// Whether the words are served: a solve on one thread.
-#[tactic(auto, using(crate::proofs::ThreeWords::three_words))]
-pub fn is_served(words: &[String]) -> bool
-    ensures { IsTrue result ↔ IsServed (map string_bytes words.now) }
+/// The solve that the words ask for.
+pub fn served(alloc: Global, words: &[String]) -> Result<Asked, Refusal>
+    ensures asked { IfOk result (λ asked. asked_of (wish_of (map string_bytes words.now)) ≡ Some asked) }
+    ensures unserved { IfErr result (IsUnserved (asked_of (wish_of (map string_bytes words.now)))) }
 {
-    if words.len() != 3 {
-        return false;
+    match wish(alloc, words) {
+        Ok(
+            Wish::Solve {
+                budget,
+                log,
+                free: false,
+                report: version,
+                ..
+            },
+        ) => Ok(Asked {
+            budget,
+            log,
+            version,
+        }),
+        Ok(_) => Err(Refusal::Usage),
+        Err(WordsFault::Usage) => Err(Refusal::Usage),
+        Err(WordsFault::Memory) => Err(Refusal::Memory),
     }
-    if !is_word(&words[0], "solve") {
-        return false;
-    }
-    if !is_word(&words[1], "--workers") {
-        return false;
-    }
-    is_word(&words[2], "0")
 }

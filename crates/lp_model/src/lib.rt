@@ -7,7 +7,7 @@
 //!
 //! - `Deck`: a linear program with its names and its sense, its feasible points and its optima.
 //! - `Certificate`: the three proofs that an answer carries.
-//! - `Outcome`, `Log`: the answers, and the entries of a run.
+//! - `Outcome`, `Basis`, `Log`: the answers, the basis that a run ends with, and the entries of a run.
 //! - `Edit`: how a deck is built, call by call.
 //!
 //! How the method reaches an answer is said in `lp_run`. It stands on `rational`.

@@ -84,7 +84,13 @@ after_swap inst s h q p end within column element =
 
 -- the state after an entry has a table where the state before it has one
 pub after_has_table : (inst : Instance) (s : State) → HasTable inst s → (e : Entry) → IsNext inst s e → HasTable inst (after s e)
-after_has_table inst s h (Flip q) next = record { table = h.table; inverse = record { right = h.inverse.right; left = h.inverse.left }; entries = h.entries; positions = h.positions; within = h.within }
+after_has_table inst s h (Flip q) next = record {
+  table = h.table;
+  inverse = record { right = h.inverse.right; left = h.inverse.left };
+  entries = h.entries;
+  positions = h.positions;
+  within = h.within;
+}
 after_has_table inst s h Turn next = record { table = h.table; inverse = record { right = h.inverse.right; left = h.inverse.left }; entries = h.entries; positions = h.positions; within = h.within }
 after_has_table inst s h (Swap q p end) next =
     let at_p = swap_element inst s h q p end next in
@@ -115,7 +121,8 @@ one_log inst s h (e ∷ log) (e' ∷ log') t t' leads leads' same =
 -- a log that leads to a state with a next entry is shorter than one that leads to the end, which goes on by that entry
 pub goes_on : (inst : Instance) (s : State) → HasTable inst s → (log whole : List Entry) (t end : State) (e : Entry) → Leads inst s log t → IsNext inst t e → Leads inst s whole end → IsFinal inst end
     → (more : List Entry) × (whole ≡ log ++ e ∷ more)
-goes_on inst s h [] [] t end e leads next leads' final = absurd (no_next_at_end inst s (regular_from_table inst s h) e (subst (λ a. IsNext inst a e) (sym leads) next) (subst (IsFinal inst) (sym leads') final))
+goes_on inst s h [] [] t end e leads next leads' final = absurd (no_next_at_end inst s (regular_from_table inst s h) e
+    (subst (λ a. IsNext inst a e) (sym leads) next) (subst (IsFinal inst) (sym leads') final))
 goes_on inst s h [] (e' ∷ whole) t end e leads next leads' final =
     (whole, ap (λ a. a ∷ whole) (one_next inst s (regular_from_table inst s h) e' e leads'.0 (subst (λ a. IsNext inst a e) (sym leads) next)))
 goes_on inst s h (a ∷ log) [] t end e leads next leads' final = absurd (no_next_at_end inst s (regular_from_table inst s h) a leads.0 (subst (IsFinal inst) (sym leads') final))

@@ -6,9 +6,7 @@ pub mod Kept
 pub mod Runs
 pub mod Tables
 pub mod WellFormed
-pub mod Listings
 pub mod FirstUnfit
-pub mod Simple
 pub mod StartStatuses
 mod Computed
 mod WorkedDecks

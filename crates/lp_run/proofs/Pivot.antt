@@ -93,7 +93,8 @@ module _ (inst : Instance) (s s' : State) (table : ℕ → ℕ → ℚ) (p q : �
         ap₂ (λ a b. a -ℚ table k q *ℚ b) (entries k j within column) (pivot_row_entries j column)
         ∙ ap (λ z. sum_ℚ m (λ i. logical_part inst table k i *ℚ coefficient inst i j) -ℚ z) (sym (sum-scale m (table k q) (λ i. (logical_part inst table p i /ℚ table p q) *ℚ coefficient inst i j)))
         ∙ sym (sum-sub m (λ i. logical_part inst table k i *ℚ coefficient inst i j) (λ i. table k q *ℚ ((logical_part inst table p i /ℚ table p q) *ℚ coefficient inst i j)))
-        ∙ sum-cong m _ _ (λ i b. ring_ℚ 4 (λ a c e r. a ⊗ c ⊖ e ⊗ (r ⊗ c) ≐ (a ⊖ e ⊗ r) ⊗ c) tt (logical_part inst table k i) (coefficient inst i j) (table k q) (logical_part inst table p i /ℚ table p q))
+        ∙ sum-cong m _ _ (λ i b. ring_ℚ 4 (λ a c e r. a ⊗ c ⊖ e ⊗ (r ⊗ c) ≐ (a ⊖ e ⊗ r) ⊗ c) tt (logical_part inst table k i) (coefficient inst i j) (table k q)
+        (logical_part inst table p i /ℚ table p q))
 
     -- a row of the pivoted table is that row's logical part times the columns
     pub pivot_entries : (k j : ℕ) → k < row_count inst → j < column_count inst
@@ -124,7 +125,8 @@ module _ (inst : Instance) (s s' : State) (table : ℕ → ℕ → ℚ) (p q : �
         (pivoted-at table p q j ∙ nothing ∙ sym none)
         (λ other. pivoted-other table p q k j other ∙ ap (λ z. table k j -ℚ table k q *ℚ z) nothing ∙ ring_ℚ 2 (λ a b. a ⊖ b ⊗ 𝟘 ≐ a) tt (table k j) (table k q))
 
-    pub pivot_inverse : InvertsBasis inst s (logical_part inst table) → ((i : ℕ) → i < row_count inst → basis_times inst s (λ k. table k q) i ≡ coefficient inst i q) → InvertsBasis inst s' (logical_part inst (pivoted table p q))
+    pub pivot_inverse : InvertsBasis inst s (logical_part inst table) → ((i : ℕ) → i < row_count inst
+        → basis_times inst s (λ k. table k q) i ≡ coefficient inst i q) → InvertsBasis inst s' (logical_part inst (pivoted table p q))
     pivot_inverse h solves = record {
       right = λ i k b c. pivot_times i (structural_count inst + k) (solves i b) ∙ h.right i k b c;
       left = λ k p' b c. column_after k p' b c;
@@ -158,7 +160,12 @@ module _ (inst : Instance) (s s' : State) (table : ℕ → ℕ → ℚ) (p q : �
     pub others : (j : ℕ) → j < column_count inst → j ≢ basic s p → j ≢ q → rest inst s' j ≡ rest inst s j
 
   pub pivot_values : (β β' : List ℚ) (c : ℚ) → Steps β β' c → Values inst s β → ((i : ℕ) → i < row_count inst → basis_times inst s (λ k. table k q) i ≡ coefficient inst i q) → Values inst s' β'
-  pivot_values β β' c steps values solves = record { one_each = steps.one_each; solves = λ i b. step_left i ∙ ap₂ (λ a e. a -ℚ e *ℚ c +ℚ (coefficient inst i q *ℚ (rest inst s q +ℚ c) -ℚ coefficient inst i (basic s p) *ℚ (at β p -ℚ table p q *ℚ c))) (values.solves i b) (solves i b) ∙ sym (step_right i) }
+  pivot_values β β' c steps values solves = record {
+    one_each = steps.one_each;
+    solves = λ i b. step_left i
+        ∙ ap₂ (λ a e. a -ℚ e *ℚ c +ℚ (coefficient inst i q *ℚ (rest inst s q +ℚ c) -ℚ coefficient inst i (basic s p) *ℚ (at β p -ℚ table p q *ℚ c)))
+        (values.solves i b) (solves i b) ∙ sym (step_right i);
+  }
     where
       step_left : (i : ℕ) → basis_times inst s' (at β') i
           ≡ basis_times inst s (at β) i -ℚ basis_times inst s (λ k. table k q) i *ℚ c +ℚ (coefficient inst i q *ℚ (rest inst s q +ℚ c) -ℚ coefficient inst i (basic s p) *ℚ (at β p -ℚ table p q *ℚ c))
@@ -176,7 +183,8 @@ module _ (inst : Instance) (s s' : State) (table : ℕ → ℕ → ℚ) (p q : �
           let before = λ (j : ℕ). rest inst s j *ℚ a j in
           let behind = λ (j : ℕ). rest inst s' j *ℚ a j in
           let r = basic s p in
-          ap (λ z. at inst.right i -ℚ z) (sum-change_two (column_count inst) r q before behind (x.basis_within p x.position) x.column steps.apart (λ j b d e. ap (λ z. z *ℚ a j) (steps.others j b d e)))
+          ap (λ z. at inst.right i -ℚ z) (sum-change_two (column_count inst) r q before behind (x.basis_within p x.position) x.column steps.apart
+          (λ j b d e. ap (λ z. z *ℚ a j) (steps.others j b d e)))
           ∙ ap₂ (λ u v. at inst.right i -ℚ (sum_ℚ (column_count inst) before +ℚ (u *ℚ a r -ℚ v *ℚ a r) +ℚ (behind q -ℚ before q))) steps.leaves_at steps.was_basic
           ∙ ap (λ u. at inst.right i -ℚ (sum_ℚ (column_count inst) before +ℚ ((at β p -ℚ table p q *ℚ c) *ℚ a r -ℚ zero_ℚ *ℚ a r) +ℚ (u *ℚ a q -ℚ before q))) steps.is_basic
           ∙ ring_ℚ 7 (λ b z e f g v c. b ⊖ (z ⊕ (e ⊗ f ⊖ 𝟘 ⊗ f) ⊕ (𝟘 ⊗ g ⊖ v ⊗ g)) ≐ b ⊖ z ⊖ g ⊗ c ⊕ (g ⊗ (v ⊕ c) ⊖ f ⊗ e)) tt

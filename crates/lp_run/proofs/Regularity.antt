@@ -73,7 +73,8 @@ module _ (inst : Instance) (s : State) (table : ℕ → ℕ → ℚ) (β : List 
   tableau_column q column = column_solves inst s table tableau_table q column
 
   -- the prices times column j
-  weighted : (j : ℕ) → j < column_count inst → sum_ℚ (row_count inst) (λ i. at (prices_of inst s table) i *ℚ coefficient inst i j) ≡ sum_ℚ (row_count inst) (λ p. cost inst s.phase (basic s p) *ℚ table p j)
+  weighted : (j : ℕ) → j < column_count inst → sum_ℚ (row_count inst) (λ i. at (prices_of inst s table) i *ℚ coefficient inst i j) ≡ sum_ℚ (row_count inst)
+      (λ p. cost inst s.phase (basic s p) *ℚ table p j)
   weighted j column =
       let m = row_count inst in
       let c = λ (p : ℕ). cost inst s.phase (basic s p) in

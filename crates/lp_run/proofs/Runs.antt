@@ -29,11 +29,6 @@ one_end inst s h (e ∷ log) (e' ∷ log') t t' leads final leads' final' =
     let first : e' ≡ e = one_next inst s (regular_from_table inst s h) e' e leads'.0 leads.0 in
     one_end inst (after s e) (after_has_table inst s h e leads.0) log log' t t' leads.1 final (subst (λ a. Leads inst (after s a) log' t') first leads'.1) final'
 
--- no state ends both at an optimum and without a limit
-pub not_both_ends : (inst : Instance) (s : State) → Regular inst s → (y β y' β' α : List ℚ) (q : ℕ) → EndsOptimal inst s y β → EndsFree inst s y' β' α q → ⊥
-not_both_ends inst s regular y β y' β' α q ends free =
-    ends.1.none_eligible q (subst (λ v. Eligible inst s v q) (one_prices inst s regular y' y free.0.prices ends.1.prices) free.0.enters.eligible)
-
 pub moves-append : (log : List Entry) (e : Entry) (more : List Entry) → is_move e ≡ true → moves log < moves (log ++ e ∷ more)
 moves-append log e more is =
     omega (arith, sum_by-append (λ a. cond (is_move a) 1 0) log (e ∷ more), sum_by-cons (λ a. cond (is_move a) 1 0) e more ∙ ap (λ b. cond b 1 0 + moves more) is)

@@ -21,7 +21,8 @@ use Rattle.rational.proofs.VectorLaws.{get-map-upto, length-map-upto}
 module _ (inst : Instance) where
   pub kind_of_structural : (j : ℕ) → j < structural_count inst → column_kind inst j ≡ column.Structural j
   kind_of_structural j within =
-      ap (λ b. cond b (column.Structural j) (cond (ltb j (structural_count inst + row_count inst)) (column.Logical (j - structural_count inst)) (column.Artificial (j - structural_count inst - row_count inst)))) (lt-ltb j (structural_count inst) within)
+      ap (λ b. cond b (column.Structural j) (cond (ltb j (structural_count inst + row_count inst)) (column.Logical (j - structural_count inst))
+      (column.Artificial (j - structural_count inst - row_count inst)))) (lt-ltb j (structural_count inst) within)
 
   pub kind_of_logical : (i : ℕ) → i < row_count inst → column_kind inst (structural_count inst + i) ≡ column.Logical i
   kind_of_logical i within =

@@ -148,7 +148,8 @@ module _ (inst : Instance) (s : State) (regular : Regular inst s) where
   one_step : (e e' : Entry) → StepsBy inst s e → StepsBy inst s e' → e ≡ e'
   one_step e e' (y, β, α, q, limit, pivoting, leaves, is) (y', β', α', q', limit', pivoting', leaves', is') =
       let there = carried y β α q y' β' α' q' pivoting pivoting' (λ q t β α. Leaves inst s q t β α limit') leaves' in
-      sym is ∙ ap (λ a. a.entry) (one_leaving inst s regular q (direction (reduced inst s y q)) β α (eligible_not_basic inst s y q pivoting.prices pivoting.enters.eligible) limit limit' leaves there) ∙ is'
+      sym is ∙ ap (λ a. a.entry) (one_leaving inst s regular q (direction (reduced inst s y q)) β α
+      (eligible_not_basic inst s y q pivoting.prices pivoting.enters.eligible) limit limit' leaves there) ∙ is'
 
   no_turn : (e : Entry) → StepsBy inst s e → Turns inst s → ⊥
   no_turn e (y, β, α, q, limit, pivoting, leaves, is) turns = not_both turns.1.0 turns.1.1 y β α q turns.1.2 pivoting

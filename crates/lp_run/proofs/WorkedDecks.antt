@@ -239,7 +239,14 @@ ranged_stepped =
 
 ranged-making : MakingLists (instance_of ranged) ranged_made
 unfolding closed
-ranged-making = (coefficient (instance_of ranged), int 2 ∷ [], table_by (instance_of ranged) ranged_start (coefficient (instance_of ranged)) (all_same 1 3 (coefficient (instance_of ranged))), ranged-pivoting.values, refl)
+ranged-making = (
+  coefficient (instance_of ranged),
+  int 2 ∷ [],
+  table_by (instance_of ranged) ranged_start (coefficient (instance_of ranged))
+      (all_same 1 3 (coefficient (instance_of ranged))),
+  ranged-pivoting.values,
+  refl,
+)
 
 ranged-lists : StepLists (instance_of ranged) 0 ranged_start ranged_stepped
 unfolding closed
@@ -493,7 +500,14 @@ bounded_stepped = ratio_item 0 0 (int 10) ∷ ratio_item 0 0 (int 10) ∷ (place
 
 bounded-making : MakingLists (instance_of bounded) bounded_made
 unfolding closed
-bounded-making = (coefficient (instance_of bounded), int 10 ∷ [], table_by (instance_of bounded) bounded_start (coefficient (instance_of bounded)) (all_same 1 3 (coefficient (instance_of bounded))), bounded-pivoting.values, refl)
+bounded-making = (
+  coefficient (instance_of bounded),
+  int 10 ∷ [],
+  table_by (instance_of bounded) bounded_start (coefficient (instance_of bounded))
+      (all_same 1 3 (coefficient (instance_of bounded))),
+  bounded-pivoting.values,
+  refl,
+)
 
 bounded-lists : StepLists (instance_of bounded) 0 bounded_start bounded_stepped
 unfolding closed
@@ -541,7 +555,8 @@ three-start_sums = refl
 -- ── the start sums of rows with ranges, where one column starts at 3 ──
 
 abbrev ranges : Deck
-ranges = deck_of (row_of L (int 1) None ∷ row_of L (int 4) (Some (minus 3)) ∷ row_of G (int 1) (Some (minus 2)) ∷ row_of E (int 5) (Some (int 2)) ∷ row_of E (int 2) (Some (minus 4)) ∷ row_of E (int 3) (Some (int 0)) ∷ [])
+ranges = deck_of (row_of L (int 1) None ∷ row_of L (int 4) (Some (minus 3)) ∷ row_of G (int 1) (Some (minus 2)) ∷ row_of E (int 5) (Some (int 2)) ∷ row_of E
+    (int 2) (Some (minus 4)) ∷ row_of E (int 3) (Some (int 0)) ∷ [])
     (column_of (int 1) ((0, int 1) ∷ (1, int 1) ∷ (2, int 1) ∷ (3, int 1) ∷ (4, int 1) ∷ (5, int 1) ∷ []) (between (int 3) (int 4)) ∷ [])
 
 ranges-start_sums : flat_map (start_sums (instance_of ranges)) (0 ∷ 1 ∷ 2 ∷ 3 ∷ 4 ∷ 5 ∷ []) ≡
@@ -572,7 +587,8 @@ ranges-logicals : (instance_of ranges).logicals ≡ nonnegative ∷ between (int
 unfolding closed
 ranges-logicals = refl
 
-ranges-intervals : map activity_interval ranges.rows ≡ record { lower = None; upper = Some (int 1) } ∷ between (int 1) (int 4) ∷ between (int 1) (int 3) ∷ between (int 5) (int 7) ∷ between (minus 2) (int 2) ∷ between (int 3) (int 3) ∷ []
+ranges-intervals : map activity_interval ranges.rows ≡ record { lower = None; upper = Some (int 1) } ∷ between (int 1) (int 4) ∷ between (int 1)
+    (int 3) ∷ between (int 5) (int 7) ∷ between (minus 2) (int 2) ∷ between (int 3) (int 3) ∷ []
 unfolding closed
 ranges-intervals = refl
 
@@ -592,7 +608,8 @@ narrow_limit = record { ratio = int 1; column = 3; entry = Swap 0 0 side.Lower }
 
 narrow-pivoting : Pivoting (instance_of narrow) narrow_start (int 0 ∷ int 0 ∷ []) (int 1 ∷ int 1 ∷ []) (int 1 ∷ minus 1 ∷ []) 0
 unfolding closed
-narrow-pivoting = pivoting_by _ _ _ _ _ _ refl refl refl (refl, (refl, tt)) (refl, (refl, tt)) (refl, (refl, tt)) (record { in_range = omega arith; ends_differ = refl; improves = record { lt = tt } }) tt
+narrow-pivoting = pivoting_by _ _ _ _ _ _ refl refl refl (refl, (refl, tt)) (refl, (refl, tt)) (refl, (refl, tt))
+    (record { in_range = omega arith; ends_differ = refl; improves = record { lt = tt } }) tt
 
 narrow-leaves : Leaves (instance_of narrow) narrow_start 0 (int 1) (int 1 ∷ int 1 ∷ []) (int 1 ∷ minus 1 ∷ []) narrow_limit
 unfolding closed
@@ -604,11 +621,19 @@ narrow_made = table_listing (instance_of narrow) narrow_start (coefficient (inst
 abbrev narrow_stepped : List Listed
 narrow_stepped =
     ratio_listing (instance_of narrow) 0 narrow_start 0 (int 1) (int 1 ∷ int 1 ∷ []) (int 1 ∷ minus 1 ∷ [])
-    ++ move_listing (instance_of narrow) 0 narrow_start (coefficient (instance_of narrow)) (int 1 ∷ int 1 ∷ []) (int 1 ∷ minus 1 ∷ []) (reduced (instance_of narrow) narrow_start (int 0 ∷ int 0 ∷ [])) 0 (int 1) (int 1) (Swap 0 0 side.Lower)
+    ++ move_listing (instance_of narrow) 0 narrow_start (coefficient (instance_of narrow)) (int 1 ∷ int 1 ∷ []) (int 1 ∷ minus 1 ∷ [])
+    (reduced (instance_of narrow) narrow_start (int 0 ∷ int 0 ∷ [])) 0 (int 1) (int 1) (Swap 0 0 side.Lower)
 
 narrow-making : MakingLists (instance_of narrow) narrow_made
 unfolding closed
-narrow-making = (coefficient (instance_of narrow), int 1 ∷ int 1 ∷ [], table_by (instance_of narrow) narrow_start (coefficient (instance_of narrow)) (all_same 2 7 (coefficient (instance_of narrow))), narrow-pivoting.values, refl)
+narrow-making = (
+  coefficient (instance_of narrow),
+  int 1 ∷ int 1 ∷ [],
+  table_by (instance_of narrow) narrow_start (coefficient (instance_of narrow))
+      (all_same 2 7 (coefficient (instance_of narrow))),
+  narrow-pivoting.values,
+  refl,
+)
 
 narrow-lists : StepLists (instance_of narrow) 0 narrow_start narrow_stepped
 unfolding closed
@@ -659,7 +684,16 @@ narrow-second : StepLists (instance_of narrow) 1 narrow_mid narrow_second
 unfolding closed
 narrow-second = inl (
   narrow_table,
-  record { prices = minus 3 ∷ int 0 ∷ []; values = int 1 ∷ int 2 ∷ []; column = int 0 ∷ int 1 ∷ []; entering = 1; limit = narrow_mid_limit; pivoting = narrow-mid-pivoting; leaves = narrow-mid-leaves },
+  record {
+    prices = minus 3 ∷ int 0 ∷ [];
+    values = int 1 ∷ int 2 ∷ [];
+    column = int 0 ∷ int 1 ∷ [];
+    entering = 1;
+    limit = narrow_mid_limit;
+    pivoting =
+        narrow-mid-pivoting;
+    leaves = narrow-mid-leaves;
+  },
   table_by (instance_of narrow) narrow_mid narrow_table (all_same 2 7 (coefficient (instance_of narrow))),
   refl,
 )

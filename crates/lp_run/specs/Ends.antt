@@ -37,11 +37,11 @@ prices_in Min y = y
 prices_in Max y = map neg_ℚ y
 
 -- the outcome that a final state gives
-abbrev pub Gives : Instance → State → Outcome → Type 0
-Gives inst s (optimal x y v) = (z β : List ℚ) × EndsOptimal inst s z β × (y ≡ prices_in inst.sense z) × (x ≡ point inst s β) × (v ≡ objective_at inst x)
-Gives inst s (infeasible y) = (β : List ℚ) × EndsInfeasible inst s y β
-Gives inst s (unbounded x r) = (y β α : List ℚ) × (q : ℕ) × EndsFree inst s y β α q × (x ≡ point inst s β) × (r ≡ ray inst s q (direction (reduced inst s y q)) α)
+abbrev pub Yields : Instance → State → Outcome → Type 0
+Yields inst s (optimal x y v) = (z β : List ℚ) × EndsOptimal inst s z β × (y ≡ prices_in inst.sense z) × (x ≡ point inst s β) × (v ≡ objective_at inst x)
+Yields inst s (infeasible y) = (β : List ℚ) × EndsInfeasible inst s y β
+Yields inst s (unbounded x r) = (y β α : List ℚ) × (q : ℕ) × EndsFree inst s y β α q × (x ≡ point inst s β) × (r ≡ ray inst s q (direction (reduced inst s y q)) α)
 
 -- the instance's whole run is the log, and its outcome is o
 abbrev pub HasOutcome : Instance → List Entry → Outcome → Type 0
-HasOutcome inst log o = (s : State) × IsRun inst log s × Gives inst s o
+HasOutcome inst log o = (s : State) × IsRun inst log s × Yields inst s o

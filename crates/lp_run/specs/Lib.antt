@@ -6,4 +6,3 @@ pub mod Run
 pub mod Ends
 pub mod Listing
 pub mod Tableau
-pub mod Simple

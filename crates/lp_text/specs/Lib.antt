@@ -4,6 +4,4 @@ pub mod Digits
 pub mod Fraction
 pub mod Limits
 pub mod Report
-pub mod Words
-pub mod Refusals
 pub mod Inner

@@ -7,6 +7,7 @@ use Rattle.lp_model.specs.declared.Entry.{Entry}
 use Rattle.lp_model.specs.declared.Entry.TheVariants.{Flip, Swap, Turn}
 use Rattle.lp_model.specs.declared.Side.{Side}
 use Rattle.lp_model.specs.declared.Side.TheVariants as side
+use Rattle.lp_model.specs.Basis.{Basis}
 use Rattle.lp_model.specs.Deck.{Deck}
 use Rattle.rational.specs.Sparse.{upto}
 use Rattle.lp_model.specs.Outcome.{Outcome, infeasible, optimal, unbounded}
@@ -46,9 +47,38 @@ abbrev pub log_lines : Option (List Entry) → List (List ℕ)
 log_lines None = []
 log_lines (Some log) = (codes "LOG " ++ decimal (length log)) ∷ map entry_line log
 
-abbrev pub report_lines : Deck → Outcome → Option (List Entry) → List (List ℕ)
-report_lines d o log = codes "LPCERT 1" ∷ (codes "DECK " ++ d.name) ∷ outcome_lines d o ++ log_lines log ++ codes "END" ∷ []
+-- a word and a number
+abbrev pub number_line : List ℕ → ℕ → List ℕ
+number_line word n = word ++ 32 ∷ decimal n
 
--- the report of a deck's outcome, with its log where one is given
+-- a word with how many numbers follow, and each of them behind another word
+abbrev pub number_lines : List ℕ → List ℕ → List ℕ → List (List ℕ)
+number_lines count_word word numbers = number_line count_word (length numbers) ∷ map (number_line word) numbers
+
+-- the basis's lines, where a basis is given
+abbrev pub basis_lines : Option Basis → List (List ℕ)
+basis_lines None = []
+basis_lines (Some basis) = number_lines (codes "BASIS") (codes "BASIC") basis.basic ++ number_lines (codes "UPPER") (codes "AT") basis.upper
+
+-- a report that tells a basis is of version 2
+abbrev pub version_line : Option Basis → List ℕ
+version_line None = codes "LPCERT 1"
+version_line (Some basis) = codes "LPCERT 2"
+
+-- what a report states of a deck
+pub record Report : Type 0 where
+  pub outcome : Outcome
+  pub basis : Option Basis
+  pub log : Option (List Entry)
+
+abbrev pub report_lines : Deck → Report → List (List ℕ)
+report_lines d report =
+    version_line report.basis ∷ (codes "DECK " ++ d.name) ∷ outcome_lines d report.outcome ++ basis_lines report.basis ++ log_lines report.log ++ codes "END" ∷ []
+
+-- the text of a report of a deck
+abbrev pub text_of_report : Deck → Report → List ℕ
+text_of_report d report = text_of (report_lines d report)
+
+-- the report of a deck's outcome without a basis, with its log where one is given
 abbrev pub report_text : Deck → Outcome → Option (List Entry) → List ℕ
-report_text d o log = text_of (report_lines d o log)
+report_text d o log = text_of_report d (record { outcome = o; basis = None; log = log })

@@ -1,5 +1,5 @@
 //! The texts of `lp`, as definitions: the lines of a text, the cards of a deck in fixed columns, the
-//! text of a fraction, the report, the words of a command, the lines of a refusal, and the limits.
+//! text of a fraction, the report, and the limits.
 //!
 //! The crate has almost no code: it declares what may be wrong with a line of a deck, and the limits,
 //! which the readers share. Its `specs/` are what the contracts of the readers, of the writer and of

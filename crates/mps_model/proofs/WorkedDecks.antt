@@ -44,7 +44,13 @@ testprob_deck = record (new_deck (codes "TESTPROB") (codes "COST")) {
       ∷ record { name = codes "LIM2"; kind = G; right = whole (pos 1); range = None }
       ∷ record { name = codes "MYEQN"; kind = E; right = whole (pos 7); range = None } ∷ [];
   columns = record { name = codes "XONE"; cost = whole (pos 1); entries = (0, whole (pos 1)) ∷ (1, whole (pos 1)) ∷ []; bounds = record { lower = Some zero_ℚ; upper = Some (whole (pos 4)) } }
-      ∷ record { name = codes "YTWO"; cost = whole (pos 4); entries = (0, whole (pos 1)) ∷ (2, whole (negsuc 0)) ∷ []; bounds = record { lower = Some (whole (negsuc 0)); upper = Some (whole (pos 1)) } }
+      ∷ record {
+        name = codes "YTWO";
+        cost = whole (pos 4);
+        entries = (0, whole (pos 1)) ∷ (2, whole (negsuc 0)) ∷ [];
+        bounds =
+            record { lower = Some (whole (negsuc 0)); upper = Some (whole (pos 1)) };
+      }
       ∷ record { name = codes "ZTHREE"; cost = whole (pos 9); entries = (1, whole (pos 1)) ∷ (2, whole (pos 1)) ∷ []; bounds = nonnegative } ∷ [];
 }
 
@@ -207,7 +213,8 @@ unfolding whole zero_ℚ ratio ◌*ℚ◌ eq_ℚ lt_ℚ le_ℚ neg_ℚ fits_widt
 negative_upper = refl
 
 -- unless a bound has set it
-negative_upper-after : IsDeckOf (text_of (with_bounds (codes " LO S         X         -5" ∷ codes " UP S         X         -2" ∷ []))) (deck_of_bounds (Some (whole (negsuc 4))) (Some (whole (negsuc 1)))) 13
+negative_upper-after : IsDeckOf (text_of (with_bounds (codes " LO S         X         -5" ∷ codes " UP S         X         -2" ∷ [])))
+    (deck_of_bounds (Some (whole (negsuc 4))) (Some (whole (negsuc 1)))) 13
 unfolding whole zero_ℚ ratio ◌*ℚ◌ eq_ℚ lt_ℚ le_ℚ neg_ℚ fits_width
 negative_upper-after = refl
 

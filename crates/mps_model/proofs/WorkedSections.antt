@@ -61,7 +61,8 @@ right_sides-early : HasFault (text_of (codes "ROWS" ∷ codes " N  COST" ∷ cod
 unfolding whole zero_ℚ ratio ◌*ℚ◌ eq_ℚ lt_ℚ le_ℚ neg_ℚ fits_width
 right_sides-early = refl
 
-ranges-twice : HasFault (text_of (codes "ROWS" ∷ codes " N  COST" ∷ codes " L  R1" ∷ codes "COLUMNS" ∷ codes "    X         COST      2" ∷ codes "RANGES" ∷ codes "BOUNDS" ∷ codes "RANGES" ∷ [])) (in_line 8 fault.Section)
+ranges-twice : HasFault (text_of (codes "ROWS" ∷ codes " N  COST" ∷ codes " L  R1" ∷ codes "COLUMNS" ∷ codes "    X         COST      2" ∷ codes "RANGES" ∷
+    codes "BOUNDS" ∷ codes "RANGES" ∷ [])) (in_line 8 fault.Section)
 unfolding whole zero_ℚ ratio ◌*ℚ◌ eq_ℚ lt_ℚ le_ℚ neg_ℚ fits_width
 ranges-twice = refl
 
@@ -82,7 +83,8 @@ data-early = refl
 -- ── lines ──
 
 -- a comment of any bytes, a blank line, carriage returns, and a line past the end, which is not judged
-ignored : IsDeckOf ((42 ∷ 200 ∷ 10 ∷ 13 ∷ 10 ∷ []) ++ text_of (codes "ROWS" ∷ codes " N  COST" ∷ codes " L  R1" ∷ codes "COLUMNS" ∷ codes "    X         COST      2" ∷ []) ++ codes "ENDATA and more" ++ 13 ∷ 10 ∷ 200 ∷ []) (plain_deck) 8
+ignored : IsDeckOf ((42 ∷ 200 ∷ 10 ∷ 13 ∷ 10 ∷ []) ++ text_of (codes "ROWS" ∷ codes " N  COST" ∷ codes " L  R1" ∷ codes "COLUMNS" ∷ codes
+    "    X         COST      2" ∷ []) ++ codes "ENDATA and more" ++ 13 ∷ 10 ∷ 200 ∷ []) (plain_deck) 8
 unfolding whole zero_ℚ ratio ◌*ℚ◌ eq_ℚ lt_ℚ le_ℚ neg_ℚ fits_width plain_deck
 ignored = refl
 
@@ -134,7 +136,8 @@ rows-limit : judge_row (record no_cards { deck = full_of_rows }) (codes "L" ∷ 
 rows-limit = refl
 
 -- N rows do not count
-rows-limit-free : judge_row (record no_cards { deck = full_of_rows }) (codes "N" ∷ codes "R" ∷ []) ≡ Ok (record no_cards { deck = record full_of_rows { objective = codes "R" }; free_rows = codes "R" ∷ [] })
+rows-limit-free : judge_row (record no_cards { deck = full_of_rows }) (codes "N" ∷ codes "R" ∷ []) ≡ Ok
+    (record no_cards { deck = record full_of_rows { objective = codes "R" }; free_rows = codes "R" ∷ [] })
 rows-limit-free = refl
 
 -- ── columns ──
@@ -153,11 +156,13 @@ unfolding whole zero_ℚ ratio ◌*ℚ◌ eq_ℚ lt_ℚ le_ℚ neg_ℚ fits_widt
 column_row-unknown = refl
 
 -- also after a 0, and before the number
-column_row-repeated : HasFault (text_of (codes "ROWS" ∷ codes " N  COST" ∷ codes " L  R1" ∷ codes "COLUMNS" ∷ codes "    X         R1        0              R1        1X" ∷ [])) (in_line 5 fault.Repeated)
+column_row-repeated : HasFault (text_of (codes "ROWS" ∷ codes " N  COST" ∷ codes " L  R1" ∷ codes "COLUMNS" ∷ codes
+    "    X         R1        0              R1        1X" ∷ [])) (in_line 5 fault.Repeated)
 unfolding whole zero_ℚ ratio ◌*ℚ◌ eq_ℚ lt_ℚ le_ℚ neg_ℚ fits_width
 column_row-repeated = refl
 
-column_cost-repeated : HasFault (text_of (codes "ROWS" ∷ codes " N  COST" ∷ codes " L  R1" ∷ codes "COLUMNS" ∷ codes "    X         COST      1" ∷ codes "    X         R1        1              COST      1" ∷ [])) (in_line 6 fault.Repeated)
+column_cost-repeated : HasFault (text_of (codes "ROWS" ∷ codes " N  COST" ∷ codes " L  R1" ∷ codes "COLUMNS" ∷ codes "    X         COST      1" ∷ codes
+    "    X         R1        1              COST      1" ∷ [])) (in_line 6 fault.Repeated)
 unfolding whole zero_ℚ ratio ◌*ℚ◌ eq_ℚ lt_ℚ le_ℚ neg_ℚ fits_width
 column_cost-repeated = refl
 
@@ -167,7 +172,8 @@ unfolding whole zero_ℚ ratio ◌*ℚ◌ eq_ℚ lt_ℚ le_ℚ neg_ℚ fits_widt
 column_number = refl
 
 -- a second pair without its name, which is then the empty name
-second_name-empty : HasFault (text_of (codes "ROWS" ∷ codes " N  COST" ∷ codes " L  R1" ∷ codes "COLUMNS" ∷ codes "    X         R1        1                        1" ∷ [])) (in_line 5 fault.UnknownRow)
+second_name-empty : HasFault (text_of (codes "ROWS" ∷ codes " N  COST" ∷ codes " L  R1" ∷ codes "COLUMNS" ∷ codes
+    "    X         R1        1                        1" ∷ [])) (in_line 5 fault.UnknownRow)
 unfolding whole zero_ℚ ratio ◌*ℚ◌ eq_ℚ lt_ℚ le_ℚ neg_ℚ fits_width
 second_name-empty = refl
 
@@ -181,35 +187,49 @@ unfolding whole zero_ℚ ratio ◌*ℚ◌ eq_ℚ lt_ℚ le_ℚ neg_ℚ fits_widt
 entries-limit = refl
 
 -- a 0 is not kept
-entries-limit-zero : judge_column (record no_cards { deck = full_of_entries; free_rows = codes "COST" ∷ [] }) ([] ∷ [] ∷ codes "COST" ∷ codes "0" ∷ [] ∷ [] ∷ []) ≡ Ok (record no_cards { deck = full_of_entries; free_rows = codes "COST" ∷ []; named = codes "COST" ∷ [] })
+entries-limit-zero : judge_column (record no_cards { deck = full_of_entries; free_rows = codes "COST" ∷ [] })
+    ([] ∷ [] ∷ codes "COST" ∷ codes "0" ∷ [] ∷ [] ∷ []) ≡ Ok (record no_cards {
+      deck = full_of_entries;
+      free_rows = codes "COST" ∷ [];
+      named =
+          codes "COST" ∷ [];
+    })
 unfolding whole zero_ℚ ratio ◌*ℚ◌ eq_ℚ lt_ℚ le_ℚ neg_ℚ fits_width
 entries-limit-zero = refl
 
 -- ── right sides and ranges ──
 
 -- further N rows are dropped with their numbers, a cost of 0 is not kept, a right side of the objective makes the constant, and other sets are passed over
-rich-read : IsDeckOf (text_of (codes "ROWS" ∷ codes " N  COST" ∷ codes " E  R1" ∷ codes " N  SPARE" ∷ codes " G  R2" ∷ codes "COLUMNS" ∷ codes "    X         COST      0              R2        3" ∷ codes "    X         SPARE     9              R1        1" ∷ codes "RANGES" ∷ codes "    A         R2        -2             COST      1" ∷ codes "    A         R1        0" ∷ codes "RHS" ∷ codes "    A         COST      7" ∷ codes "    B         R9        1X" ∷ codes "    A         SPARE     1              R2        .5" ∷ codes "ENDATA" ∷ [])) rich_deck 16
+rich-read : IsDeckOf (text_of (codes "ROWS" ∷ codes " N  COST" ∷ codes " E  R1" ∷ codes " N  SPARE" ∷ codes " G  R2" ∷ codes "COLUMNS" ∷ codes
+    "    X         COST      0              R2        3" ∷ codes "    X         SPARE     9              R1        1" ∷ codes "RANGES" ∷ codes
+    "    A         R2        -2             COST      1" ∷ codes "    A         R1        0" ∷ codes "RHS" ∷ codes "    A         COST      7" ∷ codes
+    "    B         R9        1X" ∷ codes "    A         SPARE     1              R2        .5" ∷ codes "ENDATA" ∷ [])) rich_deck 16
 unfolding whole zero_ℚ ratio ◌*ℚ◌ eq_ℚ lt_ℚ le_ℚ neg_ℚ fits_width rich_deck
 rich-read = refl
 
-right_row-unknown : HasFault (text_of (codes "ROWS" ∷ codes " N  COST" ∷ codes " L  R1" ∷ codes "COLUMNS" ∷ codes "    X         COST      2" ∷ codes "RHS" ∷ codes "    A         R1        1" ∷ codes "    A         R2        1X" ∷ [])) (in_line 8 fault.UnknownRow)
+right_row-unknown : HasFault (text_of (codes "ROWS" ∷ codes " N  COST" ∷ codes " L  R1" ∷ codes "COLUMNS" ∷ codes "    X         COST      2" ∷ codes "RHS" ∷
+    codes "    A         R1        1" ∷ codes "    A         R2        1X" ∷ [])) (in_line 8 fault.UnknownRow)
 unfolding whole zero_ℚ ratio ◌*ℚ◌ eq_ℚ lt_ℚ le_ℚ neg_ℚ fits_width
 right_row-unknown = refl
 
-right_side-repeated : HasFault (text_of (codes "ROWS" ∷ codes " N  COST" ∷ codes " L  R1" ∷ codes "COLUMNS" ∷ codes "    X         COST      2" ∷ codes "RHS" ∷ codes "    A         R1        1" ∷ codes "    A         COST      1              R1        1X" ∷ [])) (in_line 8 fault.Repeated)
+right_side-repeated : HasFault (text_of (codes "ROWS" ∷ codes " N  COST" ∷ codes " L  R1" ∷ codes "COLUMNS" ∷ codes "    X         COST      2" ∷ codes "RHS" ∷
+    codes "    A         R1        1" ∷ codes "    A         COST      1              R1        1X" ∷ [])) (in_line 8 fault.Repeated)
 unfolding whole zero_ℚ ratio ◌*ℚ◌ eq_ℚ lt_ℚ le_ℚ neg_ℚ fits_width
 right_side-repeated = refl
 
-right_number : HasFault (text_of (codes "ROWS" ∷ codes " N  COST" ∷ codes " L  R1" ∷ codes "COLUMNS" ∷ codes "    X         COST      2" ∷ codes "RHS" ∷ codes "    A         R1        1" ∷ codes "    A         COST      1X" ∷ [])) (in_line 8 fault.Number)
+right_number : HasFault (text_of (codes "ROWS" ∷ codes " N  COST" ∷ codes " L  R1" ∷ codes "COLUMNS" ∷ codes "    X         COST      2" ∷ codes "RHS" ∷ codes
+    "    A         R1        1" ∷ codes "    A         COST      1X" ∷ [])) (in_line 8 fault.Number)
 unfolding whole zero_ℚ ratio ◌*ℚ◌ eq_ℚ lt_ℚ le_ℚ neg_ℚ fits_width
 right_number = refl
 
 -- also of an N row, whose ranges are dropped
-range_row-repeated : HasFault (text_of (codes "ROWS" ∷ codes " N  COST" ∷ codes " L  R1" ∷ codes "COLUMNS" ∷ codes "    X         COST      2" ∷ codes "RANGES" ∷ codes "    A         COST      1" ∷ codes "    A         COST      1" ∷ [])) (in_line 8 fault.Repeated)
+range_row-repeated : HasFault (text_of (codes "ROWS" ∷ codes " N  COST" ∷ codes " L  R1" ∷ codes "COLUMNS" ∷ codes "    X         COST      2" ∷ codes "RANGES"
+    ∷ codes "    A         COST      1" ∷ codes "    A         COST      1" ∷ [])) (in_line 8 fault.Repeated)
 unfolding whole zero_ℚ ratio ◌*ℚ◌ eq_ℚ lt_ℚ le_ℚ neg_ℚ fits_width
 range_row-repeated = refl
 
 -- the set whose name is empty
-empty_set : HasFault (text_of (codes "ROWS" ∷ codes " N  COST" ∷ codes " L  R1" ∷ codes "COLUMNS" ∷ codes "    X         COST      2" ∷ codes "RHS" ∷ codes "              R1        1" ∷ codes "    A         R9        1" ∷ codes "              R9        1" ∷ [])) (in_line 9 fault.UnknownRow)
+empty_set : HasFault (text_of (codes "ROWS" ∷ codes " N  COST" ∷ codes " L  R1" ∷ codes "COLUMNS" ∷ codes "    X         COST      2" ∷ codes "RHS" ∷ codes
+    "              R1        1" ∷ codes "    A         R9        1" ∷ codes "              R9        1" ∷ [])) (in_line 9 fault.UnknownRow)
 unfolding whole zero_ℚ ratio ◌*ℚ◌ eq_ℚ lt_ℚ le_ℚ neg_ℚ fits_width
 empty_set = refl

@@ -61,14 +61,19 @@ at_end s line first reader e sound = by_rows s.free_rows e
     by_column None e = absurd (cc e)
     by_column (Some c) e = subst (λ f. StandsAt f reader) (is_first (crossed_bounds c.name) e) sound
 
-    by_rows : (names : List (List ℕ)) → elim names [ [] ↦ has_fault no_objective | name ∷ others ↦ elim (find (λ c. is_crossed c.bounds) s.deck.columns) [ None ↦ is_deck s.deck line | Some c ↦ has_fault (crossed_bounds c.name) ] ] ≡ has_fault first
+    by_rows : (names : List (List ℕ)) → elim names [
+      | [] ↦ has_fault no_objective
+      | name ∷ others ↦ elim
+          (find (λ c. is_crossed c.bounds) s.deck.columns) [ None ↦ is_deck s.deck line | Some c ↦ has_fault (crossed_bounds c.name) ]
+    ] ≡ has_fault first
         → StandsAt first reader
     by_rows [] e = subst (λ f. StandsAt f reader) (is_first no_objective e) sound
     by_rows (name ∷ others) e = by_column (find (λ c. is_crossed c.bounds) s.deck.columns) e
 
 -- a reader stands behind the deck's last line where the deck's end has the fault
 pub after_end : (s : DeckSoFar) (line : ℕ) (reader : ReaderState) (result : Result Deck DeckFault) → reader.fault ≡ None
-    → MatchResult result (λ d. finished s line ≡ is_deck d line) (λ f. IfSome (text_fault f) (λ first. finished s line ≡ has_fault first)) → ¬ IsErrOf result fault.Read → IfErr result (λ f. StandsAfter f reader)
+    → MatchResult result (λ d. finished s line ≡ is_deck d line) (λ f. IfSome (text_fault f) (λ first. finished s line ≡ has_fault first))
+    → ¬ IsErrOf result fault.Read → IfErr result (λ f. StandsAfter f reader)
 after_end s line reader (Ok d) sound is other = tt
 after_end s line reader (Err f) sound is other = record {
   failed = λ e. absurd (not_read Deck f other e);

@@ -14,7 +14,7 @@ use Rattle.mps_model.specs.declared.BoundKind.{BoundKind}
 use Rattle.mps_model.specs.BoundCards.{bound_number, bounds_after, judge_bound, judge_bound_of, kind_of, sets_lower, with_bound}
 use Rattle.mps_reader.specs.declared.bounds.Ends.{Ends}
 use Rattle.mps_reader.specs.declared.draft.Draft.{Draft}
-use Rattle.mps_reader.specs.Inner.Standing.{IsFound, Stands, interval_of, deck_with, is_lowered}
+use Rattle.mps_reader.specs.Inner.Standing.{IsFound, IsDraftOf, interval_of, deck_with, is_lowered}
 use Rattle.mps_reader.proofs.BoundSet.{deck_with-bounds, deck_with-set, is_lowered-get, lowered-set}
 use Rattle.mps_reader.proofs.CardSteps.{first_found}
 
@@ -49,7 +49,7 @@ module _ (s : DeckSoFar) (fields : List (List ℕ)) (word name : List ℕ) (kind
 
 -- ── the draft ──
 
-module _ (draft : Draft) (s : DeckSoFar) (h : Stands draft s) where
+module _ (draft : Draft) (s : DeckSoFar) (h : IsDraftOf draft s) where
   module _ (kind : BoundKind) (v : ℚ) (j : ℕ) (old new : Ends) (inside : j < length draft.deck.columns)
       (was : old ≡ get_or draft.bounds.items j old)
       (ends : interval_of new ≡ bounds_after kind v old.is_lowered (interval_of old))
@@ -72,7 +72,7 @@ module _ (draft : Draft) (s : DeckSoFar) (h : Stands draft s) where
         ≡ deck_with draft.deck draft.free_rows.keys (set draft.bounds.items j new)
     new_deck = ap₂ (λ d b. with_bounds d j b) h.deck new_bounds ∙ deck_with-set draft.deck draft.free_rows.keys draft.bounds.items j within_ends new
 
-    pub stands_with_bound : Stands (record draft { bounds = with_item draft.bounds j new }) (with_bound s kind j v)
+    pub stands_with_bound : IsDraftOf (record draft { bounds = with_item draft.bounds j new }) (with_bound s kind j v)
     stands_with_bound = record {
       begun = h.begun;
       deck = new_deck;

@@ -49,7 +49,11 @@ row_added s name (Kept kind) = either (nat_lt (length s.deck.rows) row_limit) _ 
 row_judged : (s : DeckSoFar) (fields : List (List ℕ)) → JudgesCard (judge_row s fields)
 row_judged s fields = by (row_type_of (field_of fields 1))
   where
-    by : (o : Option RowType) → JudgesCard (elim o [ None ↦ Err fault.RowType | Some kind ↦ cond (is_some (place_of s (field_of fields 2))) (Err fault.Repeated) (with_row_of s (field_of fields 2) kind) ])
+    by : (o : Option RowType) → JudgesCard (elim o [
+      | None ↦ Err fault.RowType
+      | Some kind ↦ cond (is_some (place_of s (field_of fields 2))) (Err fault.Repeated)
+          (with_row_of s (field_of fields 2) kind)
+    ])
     by None = tt
     by (Some kind) = either (is_some (place_of s (field_of fields 2))) _ _ tt (row_added s (field_of fields 2) kind)
 
@@ -66,7 +70,11 @@ module _ (use_number : UseOfNumber) (used : (s : DeckSoFar) (place : RowPlace) (
   pair_judged : (s : DeckSoFar) (name text : List ℕ) → JudgesCard (judge_pair use_number s name text)
   pair_judged s name text = by (place_of s name)
     where
-      by : (o : Option RowPlace) → JudgesCard (elim o [ None ↦ Err fault.UnknownRow | Some place ↦ cond (is_among name s.named) (Err fault.Repeated) (and_then (number_in text) (λ v. use_number (with_named s name) place v)) ])
+      by : (o : Option RowPlace) → JudgesCard (elim o [
+        | None ↦ Err fault.UnknownRow
+        | Some place ↦ cond (is_among name s.named) (Err fault.Repeated)
+            (and_then (number_in text) (λ v. use_number (with_named s name) place v))
+      ])
       by None = tt
       by (Some place) = either (is_among name s.named) _ _ tt (then (number_in text) _ (number_read text) (λ v. used (with_named s name) place v))
 

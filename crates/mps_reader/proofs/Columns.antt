@@ -19,7 +19,7 @@ use Rattle.mps_model.specs.declared.Section.TheVariants.{Columns}
 use Rattle.mps_model.specs.Sections.{has_begun}
 use Rattle.mps_reader.specs.declared.bounds.Ends.{Ends}
 use Rattle.mps_reader.specs.declared.draft.Draft.{Draft}
-use Rattle.mps_reader.specs.Inner.Standing.{InColumns, IsLast, Stands, interval_of, deck_with, is_lowered, slot_of}
+use Rattle.mps_reader.specs.Inner.Standing.{InColumns, IsLast, IsDraftOf, interval_of, deck_with, is_lowered, slot_of}
 use Rattle.mps_reader.proofs.Names.{same_bytes-equal}
 use Rattle.mps_reader.proofs.Slots.{unmarked}
 use Rattle.mps_reader.proofs.WithEnds.{deck_with-columns, deck_with-find_column, deck_with-with_column}
@@ -31,7 +31,7 @@ is_lowered-push [] e (suc j) not = refl
 is_lowered-push (x ∷ ends) e zero not = refl
 is_lowered-push (x ∷ ends) e (suc j) not = is_lowered-push ends e j not
 
-module _ (draft : Draft) (s : DeckSoFar) (h : Stands draft s) where
+module _ (draft : Draft) (s : DeckSoFar) (h : IsDraftOf draft s) where
   pub columns-same : length s.deck.columns ≡ length draft.deck.columns
   columns-same = ap (λ (d : Deck). length d.columns) h.deck ∙ deck_with-columns draft.deck draft.free_rows.keys draft.bounds.items
 
@@ -44,12 +44,14 @@ module _ (draft : Draft) (s : DeckSoFar) (h : Stands draft s) where
 
   pub begin_column-full : (name : List ℕ) → column_limit ≤ length draft.deck.columns → begin_column s name ≡ Err (fault.Limit counted.Columns)
   begin_column-full name full =
-      ap (λ b. cond b (Ok (record s { deck = with_column s.deck name; named = [] })) (Err (fault.Limit counted.Columns))) (ap (λ n. nat_lt n column_limit) columns-same ∙ le-ltb (length draft.deck.columns) column_limit full)
+      ap (λ b. cond b (Ok (record s { deck = with_column s.deck name; named = [] })) (Err (fault.Limit counted.Columns)))
+      (ap (λ n. nat_lt n column_limit) columns-same ∙ le-ltb (length draft.deck.columns) column_limit full)
 
   module _ (name : List ℕ) (at : InColumns draft) (room : length draft.deck.columns < column_limit) where
     begin_column-room : begin_column s name ≡ Ok (record s { deck = with_column s.deck name; named = [] })
     begin_column-room =
-        ap (λ b. cond b (Ok (record s { deck = with_column s.deck name; named = [] })) (Err (fault.Limit counted.Columns))) (ap (λ n. nat_lt n column_limit) columns-same ∙ lt-ltb (length draft.deck.columns) column_limit room)
+        ap (λ b. cond b (Ok (record s { deck = with_column s.deck name; named = [] })) (Err (fault.Limit counted.Columns)))
+        (ap (λ n. nat_lt n column_limit) columns-same ∙ lt-ltb (length draft.deck.columns) column_limit room)
 
     -- the new column is the last, and it has no entry
     new_last : (i : ℕ) → has_entry (column (with_column draft.deck name) (length (with_column draft.deck name).columns - 1)).entries i ≡ false
@@ -58,7 +60,7 @@ module _ (draft : Draft) (s : DeckSoFar) (h : Stands draft s) where
         ∙ ap (λ (c : Column). has_entry c.entries i) (get_or_at draft.deck.columns (record no_column { name = name }) [] no_column (length draft.deck.columns) refl)
 
     begun_stands : (e : Ends) → interval_of e ≡ nonnegative → e.is_lowered ≡ false → (ends : Vec Ends) → ends.items ≡ draft.bounds.items ++ e ∷ []
-        → Stands (record draft { deck = with_column draft.deck name; named = replicate (length draft.named) None; bounds = ends }) (record s { deck = with_column s.deck name; named = [] })
+        → IsDraftOf (record draft { deck = with_column draft.deck name; named = replicate (length draft.named) None; bounds = ends }) (record s { deck = with_column s.deck name; named = [] })
     begun_stands e up free ends more = record {
       begun = h.begun;
       deck = ap (λ d. with_column d name) h.deck ∙ sym (deck_with-with_column draft.deck draft.free_rows.keys draft.bounds.items name e up h.bounded)
@@ -76,19 +78,22 @@ module _ (draft : Draft) (s : DeckSoFar) (h : Stands draft s) where
       entered = λ before is i has. absurd (true≢false (sym has ∙ new_last i));
     }
 
-    pub begun_column : (e : Ends) → interval_of e ≡ nonnegative → e.is_lowered ≡ false → (ends : Vec Ends) → ends.items ≡ draft.bounds.items ++ e ∷ [] → (deck : Deck) → deck ≡ with_column draft.deck name → (marks : List (Option Bool)) → marks ≡ replicate (length draft.named) None
-        → (after : DeckSoFar) × (begin_column s name ≡ Ok after) × Stands (record draft { deck = deck; named = marks; bounds = ends }) after
+    pub begun_column : (e : Ends) → interval_of e ≡ nonnegative → e.is_lowered ≡ false → (ends : Vec Ends) → ends.items ≡ draft.bounds.items ++ e ∷ []
+        → (deck : Deck) → deck ≡ with_column draft.deck name → (marks : List (Option Bool)) → marks ≡ replicate (length draft.named) None
+        → (after : DeckSoFar) × (begin_column s name ≡ Ok after) × IsDraftOf (record draft { deck = deck; named = marks; bounds = ends }) after
     begun_column e up free ends more deck deck_is marks marks_are = (
       record s { deck = with_column s.deck name; named = [] },
       begin_column-room,
-      subst (λ (d : Deck). Stands (record draft { deck = d; named = marks; bounds = ends }) (record s { deck = with_column s.deck name; named = [] })) (sym deck_is)
-          (subst (λ (m : List (Option Bool)). Stands (record draft { deck = with_column draft.deck name; named = m; bounds = ends }) (record s { deck = with_column s.deck name; named = [] })) (sym marks_are)
+      subst (λ (d : Deck). IsDraftOf (record draft { deck = d; named = marks; bounds = ends }) (record s { deck = with_column s.deck name; named = [] })) (sym deck_is)
+          (subst (λ (m : List (Option Bool)). IsDraftOf (record draft { deck = with_column draft.deck name; named = m; bounds = ends })
+          (record s { deck = with_column s.deck name; named = [] })) (sym marks_are)
           (begun_stands e up free ends more)),
     )
 
   -- ── the column of a card ──
 
-  at_column-cases : (name : List ℕ) (found : Option ℕ) → find_column s.deck name ≡ found → at_column s name ≡ elim found [ None ↦ begin_column s name | Some j ↦ cond (j + 1 == length s.deck.columns) (Ok s) (Err fault.Scattered) ]
+  at_column-cases : (name : List ℕ) (found : Option ℕ) → find_column s.deck name ≡ found
+      → at_column s name ≡ elim found [ None ↦ begin_column s name | Some j ↦ cond (j + 1 == length s.deck.columns) (Ok s) (Err fault.Scattered) ]
   at_column-cases name found is = ap (λ o. elim o [ None ↦ begin_column s name | Some j ↦ cond (j + 1 == length s.deck.columns) (Ok s) (Err fault.Scattered) ]) is
 
   pub at_column-new : (name : List ℕ) → find_column draft.deck name ≡ None → at_column s name ≡ begin_column s name

@@ -14,7 +14,7 @@ use Rattle.mps_reader.specs.declared.draft.Draft.{Draft}
 use Rattle.mps_reader.specs.declared.pairs.Use.{Use}
 use Rattle.mps_reader.specs.declared.pairs.Use.TheVariants.{InColumn, AsRight, AsRange}
 use Rattle.mps_reader.specs.declared.refusal.Refusal.{Refusal}
-use Rattle.mps_reader.specs.Inner.Standing.{Judged, MayUse, Stands}
+use Rattle.mps_reader.specs.Inner.Standing.{Judged, MayUse, IsDraftOf}
 
 -- what is judged as another card is taken as that
 pub judged_as : (j k : Result DeckSoFar LineFault) (new : Draft) (r : Result (Unit {0}) Refusal) → j ≡ k → Judged k new r → Judged j new r
@@ -31,7 +31,8 @@ judged_by_last Bounds before s fields = refl
 judged_by_last Finish before s fields = refl
 
 -- the section that stands first in a draft judges a card
-pub judged_in : (draft : Draft) (s : DeckSoFar) (k kind : Section) → Stands draft s → slice_get draft.begun.items 0 ≡ Some k → k ≡ kind → (fields : List (List ℕ)) → judge_data s.begun s fields ≡ judge_data (kind ∷ []) s fields
+pub judged_in : (draft : Draft) (s : DeckSoFar) (k kind : Section) → IsDraftOf draft s → slice_get draft.begun.items 0 ≡ Some k → k ≡ kind
+    → (fields : List (List ℕ)) → judge_data s.begun s fields ≡ judge_data (kind ∷ []) s fields
 judged_in draft s k kind h first is fields = ap (λ b. judge_data b s fields) h.begun ∙ by draft.begun.items (first ∙ ap Some is)
   where
     by : (items : List Section) → slice_get items 0 ≡ Some kind → judge_data items s fields ≡ judge_data (kind ∷ []) s fields
@@ -63,8 +64,8 @@ may_in_set AsRight draft set may = may
 may_in_set AsRange draft set may = may
 
 -- what a draft stands for once a card's set was asked for
-pub of_used : (new : Draft) (s : DeckSoFar) (name : List ℕ) (b : Bool) → b ≡ true → Stands new (if b then with_set s name else s) → Stands new (with_set s name)
-of_used new s name b used h = subst (λ t. Stands new (if t then with_set s name else s)) used h
+pub of_used : (new : Draft) (s : DeckSoFar) (name : List ℕ) (b : Bool) → b ≡ true → IsDraftOf new (if b then with_set s name else s) → IsDraftOf new (with_set s name)
+of_used new s name b used h = subst (λ t. IsDraftOf new (if t then with_set s name else s)) used h
 
-pub of_unused : (new : Draft) (s : DeckSoFar) (name : List ℕ) (b : Bool) → b ≡ false → Stands new (if b then with_set s name else s) → Stands new s
-of_unused new s name b unused h = subst (λ t. Stands new (if t then with_set s name else s)) unused h
+pub of_unused : (new : Draft) (s : DeckSoFar) (name : List ℕ) (b : Bool) → b ≡ false → IsDraftOf new (if b then with_set s name else s) → IsDraftOf new s
+of_unused new s name b unused h = subst (λ t. IsDraftOf new (if t then with_set s name else s)) unused h

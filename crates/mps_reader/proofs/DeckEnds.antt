@@ -7,7 +7,7 @@ use Rattle.mps_model.specs.DeckSoFar.{DeckSoFar}
 use Rattle.mps_model.specs.DeckOf.{crossed_bounds, finished, has_fault, is_crossed, is_deck, no_objective}
 use Rattle.mps_reader.specs.declared.bounds.Ends.{Ends}
 use Rattle.mps_reader.specs.declared.draft.Draft.{Draft}
-use Rattle.mps_reader.specs.Inner.Standing.{Stands, interval_of, deck_with, no_objective_name, with_ends}
+use Rattle.mps_reader.specs.Inner.Standing.{IsDraftOf, interval_of, deck_with, no_objective_name, with_ends}
 use Rattle.mps_reader.proofs.CrossedColumns.{AreUncrossed, find-first, find-none, given_ends, with_ends-none}
 use Rattle.mps_reader.proofs.WithEnds.{get_or-with_ends, length-with_ends}
 
@@ -19,7 +19,7 @@ first_name : (rows : List (List ℕ)) (a b : List ℕ) → ¬ (length rows ≡ 0
 first_name [] a b h = absurd (h refl)
 first_name (name ∷ others) a b h = refl
 
-module _ (draft : Draft) (s : DeckSoFar) (h : Stands draft s) (ends : List Ends) (same : ends ≡ draft.bounds.items) where
+module _ (draft : Draft) (s : DeckSoFar) (h : IsDraftOf draft s) (ends : List Ends) (same : ends ≡ draft.bounds.items) where
   all_columns : length ends ≡ length draft.deck.columns
   all_columns = ap length same ∙ h.bounded
 

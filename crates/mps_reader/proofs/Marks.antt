@@ -76,7 +76,8 @@ marked-still marks k m within marked = elim (cases_eq m k) [
 
 module _ (slots : List ℕ → Option ℕ) (own : (n m : List ℕ) (k : ℕ) → slots n ≡ Some k → slots m ≡ Some k → n ≡ m) where
   -- the mark of a name's slot names that name besides
-  pub named-more : (marks : List (Option Bool)) (named : List (List ℕ)) (name : List ℕ) (k : ℕ) → slots name ≡ Some k → k < length marks → ((n : List ℕ) → is_among n named ≡ is_marked marks (slots n)) → (n : List ℕ) → is_among n (name ∷ named) ≡ is_marked (set marks k (Some true)) (slots n)
+  pub named-more : (marks : List (Option Bool)) (named : List (List ℕ)) (name : List ℕ) (k : ℕ) → slots name ≡ Some k → k < length marks
+      → ((n : List ℕ) → is_among n named ≡ is_marked marks (slots n)) → (n : List ℕ) → is_among n (name ∷ named) ≡ is_marked (set marks k (Some true)) (slots n)
   named-more marks named name k is within before n = elim (cases_Bool (same_bytes n name)) [
     | inl e ↦
         ap (λ b. b || is_among n named) e ∙ sym (marked-own marks k within)

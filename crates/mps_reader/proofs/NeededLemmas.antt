@@ -45,7 +45,8 @@ module _ (start text kept : List ℕ) (left left' : Option (List ℕ)) (n used :
         record {
           earlier = h.taken ++ t.earlier;
           last = t.last;
-          given = ap (λ t. Some t) (h.split ∙ ap (λ r. h.taken ++ r) p.split ∙ sym (append_assoc h.taken (t.earlier ++ t.last) p.rest') ∙ ap (λ b. b ++ p.rest') (sym (append_assoc h.taken t.earlier t.last)))
+          given = ap (λ t. Some t) (h.split ∙ ap (λ r. h.taken ++ r) p.split ∙ sym (append_assoc h.taken (t.earlier ++ t.last) p.rest')
+              ∙ ap (λ b. b ++ p.rest') (sym (append_assoc h.taken t.earlier t.last)))
               ∙ ap (prepend_known ((h.taken ++ t.earlier) ++ t.last)) (sym p.known);
           few = t.few;
           needed = λ _. needed_before p.rest' p.split (t.needed some);

@@ -27,7 +27,7 @@ use Rattle.mps_reader.specs.Inner.Uses.{use_is}
 use Rattle.mps_reader.specs.declared.refusal.Refusal.{Refusal}
 use Rattle.mps_reader.specs.Inner.Refusals.{line_fault}
 use Rattle.mps_reader.specs.Inner.Placed.{IsFull, IsVacant, IsVacantFor, deck_after, has_room_for, with_number}
-use Rattle.mps_reader.specs.Inner.Standing.{InColumns, IsFound, Judged, MayUse, Stands, deck_with, is_marked, place_is, slot_is, slot_of, slot_with}
+use Rattle.mps_reader.specs.Inner.Standing.{InColumns, IsFound, Judged, MayUse, IsDraftOf, deck_with, is_marked, place_is, slot_is, slot_of, slot_with}
 use Rattle.mps_reader.proofs.Columns.{begun-in}
 use Rattle.mps_reader.proofs.Marks.{marked-own, marked-still, named-more, slot_own, slot_within}
 use Rattle.mps_reader.proofs.WithEnds.{deck_with-columns, deck_with-entry_count, deck_with-with_cost, deck_with-with_entry}
@@ -99,7 +99,9 @@ row_changed d i slot f keeps = record {
   entered = λ i has. inr has;
 }
 
-column_changed : (d : Deck) (slot : ℕ) (f : Column → Column) → 0 < length d.columns → ((c : Column) (i : ℕ) → has_entry (f c).entries i ≡ true → (slot ≡ i) ⊎ (has_entry c.entries i ≡ true)) → IsKept d (change_column d (length d.columns - 1) f) slot
+column_changed : (d : Deck) (slot : ℕ) (f : Column → Column) → 0 < length d.columns
+    → ((c : Column) (i : ℕ) → has_entry (f c).entries i ≡ true → (slot ≡ i) ⊎ (has_entry c.entries i ≡ true))
+    → IsKept d (change_column d (length d.columns - 1) f) slot
 column_changed d slot f some gains =
     let end = length d.columns - 1 in
     let same : length (set d.columns end (f (column d end))) ≡ length d.columns = length-set d.columns end (f (column d end)) in
@@ -109,7 +111,8 @@ column_changed d slot f some gains =
       places = λ name. refl;
       columns = same;
       entered = λ i has. gains (column d end) i (
-          sym (ap (λ (c : Column). has_entry c.entries i) (ap (λ n. get_or (set d.columns end (f (column d end))) (n - 1) no_column) same ∙ get_or-set_same d.columns end (f (column d end)) no_column (omega arith)))
+          sym (ap (λ (c : Column). has_entry c.entries i) (ap (λ n. get_or (set d.columns end (f (column d end))) (n - 1) no_column) same
+          ∙ get_or-set_same d.columns end (f (column d end)) no_column (omega arith)))
           ∙ has
           );
     }
@@ -122,7 +125,8 @@ inserted i v ((k, u) ∷ pairs) m has = by_test (nat_lt i k) (inserted i v pairs
     joined true b e = refl
     joined false b e = e
 
-    by_test : (t : Bool) → (has_entry (insert_entry i v pairs) m ≡ true → (i ≡ m) ⊎ (has_entry pairs m ≡ true)) → has_entry (cond t ((i, v) ∷ (k, u) ∷ pairs) ((k, u) ∷ insert_entry i v pairs)) m ≡ true → (i ≡ m) ⊎ (has_entry ((k, u) ∷ pairs) m ≡ true)
+    by_test : (t : Bool) → (has_entry (insert_entry i v pairs) m ≡ true → (i ≡ m) ⊎ (has_entry pairs m ≡ true))
+        → has_entry (cond t ((i, v) ∷ (k, u) ∷ pairs) ((k, u) ∷ insert_entry i v pairs)) m ≡ true → (i ≡ m) ⊎ (has_entry ((k, u) ∷ pairs) m ≡ true)
     by_test true later e = elim (or_cases (i == m) (k == m || has_entry pairs m) e) [ inl here ↦ inl (eqb-true i m here) | inr old ↦ inr old ]
     by_test false later e = elim (or_cases (k == m) (has_entry (insert_entry i v pairs) m) e) [
       | inl here ↦ inr (ap (λ b. b || has_entry pairs m) here)
@@ -175,7 +179,7 @@ module _ (how : Use) (s : DeckSoFar) (name text : List ℕ) where
 
 -- ── the draft after a pair ──
 
-module _ (how : Use) (draft : Draft) (s : DeckSoFar) (h : Stands draft s) (may : MayUse how draft) where
+module _ (how : Use) (draft : Draft) (s : DeckSoFar) (h : IsDraftOf draft s) (may : MayUse how draft) where
   -- the columns have begun
   pub begun-may : has_begun Columns s.begun ≡ true
   begun-may = by how may
@@ -199,7 +203,11 @@ module _ (how : Use) (draft : Draft) (s : DeckSoFar) (h : Stands draft s) (may :
       slots_kept : (n : List ℕ) → slot_of (deck_after how draft.deck place v) draft.free_rows.keys n ≡ slot_of draft.deck draft.free_rows.keys n
       slots_kept n = ap₂ (λ o r. slot_with r o (position (λ m. same_bytes m n) draft.free_rows.keys)) (kept.places n) kept.rows
 
-      pub pair_stands : Stands (record draft { deck = deck_after how draft.deck place v; named = set draft.named (slot_is (length draft.deck.rows) place) (Some true) }) (record s { deck = deck_after how s.deck place v; named = name ∷ s.named })
+      pub pair_stands : IsDraftOf (record draft {
+        deck = deck_after how draft.deck place v;
+        named =
+            set draft.named (slot_is (length draft.deck.rows) place) (Some true);
+      }) (record s { deck = deck_after how s.deck place v; named = name ∷ s.named })
       pair_stands = record {
         begun = h.begun;
         deck = ap (λ d. deck_after how d place v) h.deck ∙ deck_after-ends draft.deck draft.free_rows.keys draft.bounds.items how place v;
@@ -216,7 +224,8 @@ module _ (how : Use) (draft : Draft) (s : DeckSoFar) (h : Stands draft s) (may :
         early = λ none. absurd (true≢false (sym begun-may ∙ none));
         blank = λ none. absurd (true≢false (sym begun-may ∙ none));
         entered = λ before is i has. elim (kept.entered i has) [
-          | inl own ↦ ap (λ k. is_marked (set draft.named (slot_is (length draft.deck.rows) place) (Some true)) (Some k)) (sym own) ∙ marked-own draft.named (slot_is (length draft.deck.rows) place) slot-marked
+          | inl own ↦ ap (λ k. is_marked (set draft.named (slot_is (length draft.deck.rows) place) (Some true)) (Some k)) (sym own)
+              ∙ marked-own draft.named (slot_is (length draft.deck.rows) place) slot-marked
           | inr old ↦ marked-still draft.named (slot_is (length draft.deck.rows) place) i slot-marked (h.entered before is i old)
         ];
       }
@@ -231,12 +240,14 @@ module _ (how : Use) (draft : Draft) (s : DeckSoFar) (h : Stands draft s) (may :
       pub pair_full : has_room_for how draft.deck place v ≡ false → judge_pair (use_is how) s name text ≡ Err (fault.Limit counted.Entries)
       pair_full full = pair-value how s name text (place_is place) found (named-as ∙ fresh) v value ∙ use-full (with_named s name) v how place (room_as ∙ full)
 
-      pub pair_taken : (new : Draft) (k : ℕ) (marks : List (Option Bool)) → new ≡ record draft { deck = deck_after how draft.deck place v } → k ≡ slot_is (length draft.deck.rows) place → marks ≡ set new.named k (Some true)
-          → has_room_for how draft.deck place v ≡ true → (after : DeckSoFar) × (judge_pair (use_is how) s name text ≡ Ok after) × Stands (record new { named = marks }) after
+      pub pair_taken : (new : Draft) (k : ℕ) (marks : List (Option Bool)) → new ≡ record draft { deck = deck_after how draft.deck place v }
+          → k ≡ slot_is (length draft.deck.rows) place → marks ≡ set new.named k (Some true)
+          → has_room_for how draft.deck place v ≡ true → (after : DeckSoFar) × (judge_pair (use_is how) s name text ≡ Ok after) × IsDraftOf (record new { named = marks }) after
       pair_taken new k marks is slot_at marked room = (
         record s { deck = deck_after how s.deck place v; named = name ∷ s.named },
         pair_judged room,
-        subst (λ (d : Draft). Stands d (record s { deck = deck_after how s.deck place v; named = name ∷ s.named })) (sym (ap₂ (λ (n : Draft) m. record n { named = m }) is (marked ∙ ap₂ (λ (n : Draft) j. set n.named j (Some true)) is slot_at))) (pair_stands v),
+        subst (λ (d : Draft). IsDraftOf d (record s { deck = deck_after how s.deck place v; named = name ∷ s.named }))
+            (sym (ap₂ (λ (n : Draft) m. record n { named = m }) is (marked ∙ ap₂ (λ (n : Draft) j. set n.named j (Some true)) is slot_at))) (pair_stands v),
       )
 
   -- an unmarked row has no entry in the last column
@@ -259,7 +270,8 @@ module _ (how : Use) (draft : Draft) (s : DeckSoFar) (h : Stands draft s) (may :
 -- ── refusals ──
 
 -- a refusal that is handed on
-pub refused : (judged : Result DeckSoFar LineFault) (new : Draft) (r : Result (Unit {0}) Refusal) (refusal : Refusal) → IsErrAnd r (λ e. e ≡ refusal) → IsFound judged (line_fault refusal) → Judged judged new r
+pub refused : (judged : Result DeckSoFar LineFault) (new : Draft) (r : Result (Unit {0}) Refusal) (refusal : Refusal) → IsErrAnd r (λ e. e ≡ refusal)
+    → IsFound judged (line_fault refusal) → Judged judged new r
 refused judged new (Ok u) refusal same found = elim same [ ]
 refused judged new (Err e) refusal same found = subst (λ (x : Refusal). IsFound judged (line_fault x)) (sym same) found
 

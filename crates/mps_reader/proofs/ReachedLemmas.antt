@@ -27,7 +27,7 @@ use Rattle.mps_reader.specs.declared.faults.DeckFault.TheVariants as fault
 use Rattle.mps_reader.specs.Answers.{HasAnswered, IsFaultOf, IsFresh, IsReadFault, IsReadNeeded, StandsAfter}
 use Rattle.mps_reader.specs.Inner.Reached.{HasColumnsOf, IsFoundAt, IsLineCause, IsTaken, IsThrough, Reached, ReachedIn}
 use Rattle.mps_reader.specs.Faults.{text_fault}
-use Rattle.mps_reader.specs.Inner.Standing.{Stands}
+use Rattle.mps_reader.specs.Inner.Standing.{IsDraftOf}
 use Rattle.mps_reader.proofs.AfterFaults.{after_card, after_end}
 use Rattle.mps_reader.proofs.CardFaults.{columns_judged}
 use Rattle.mps_reader.proofs.LineSizes.{length-first}
@@ -316,14 +316,14 @@ module _ (start : List ℕ) (text left : Option (List ℕ)) (reader : ReaderStat
     has_answered = record { sound = sound_next; count = answered_line.count ∙ sym answered_line.number }
 
     -- after a fault of the line the reader stands behind it
-    pub stands_behind : (T : Type 0) (f : DeckFault) → ((s : DeckSoFar) (line : Line) → Stands draft s → HasColumnsOf answer line → IsFoundAt answer.number (judge_columns s line.bytes) f)
+    pub stands_behind : (T : Type 0) (f : DeckFault) → ((s : DeckSoFar) (line : Line) → IsDraftOf draft s → HasColumnsOf answer line → IsFoundAt answer.number (judge_columns s line.bytes) f)
         → ¬ IsErrOf {T = T} (Err f) fault.Read → StandsAfter f reader'
     stands_behind T f found_at other =
         let l = answered_line in
         after_card T answer.number (judge_columns h.so_far l.line.bytes) f reader' (columns_judged h.so_far l.line.bytes) (found_at h.so_far l.line h.stands l.columns) other has_answered
 
     -- a fault of the line is the text's
-    pub not_taken : (f : DeckFault) → ((s : DeckSoFar) (line : Line) → Stands draft s → HasColumnsOf answer line → IsFoundAt answer.number (judge_columns s line.bytes) f)
+    pub not_taken : (f : DeckFault) → ((s : DeckSoFar) (line : Line) → IsDraftOf draft s → HasColumnsOf answer line → IsFoundAt answer.number (judge_columns s line.bytes) f)
         → IsFaultOf (prepend_known start text) f
     not_taken f found_at = if_some (text_fault f) _ _ (λ first found. if_known start text Here (λ t. HasFault t first) (λ t r.
         let l = answered_line in
@@ -332,21 +332,22 @@ module _ (start : List ℕ) (text left : Option (List ℕ)) (reader : ReaderStat
         ∙ stops reader.count reader.since h.so_far l.line here.0 found.0 (judged_within reader.since h.so_far l.line l.within ∙ found.2)
         ∙ ap has_fault (sym (found.1 ∙ ap (λ n. in_line n found.0) l.number))) h.run) (found_at h.so_far answered_line.line h.stands answered_line.columns)
 
-    module _ (takes : (s : DeckSoFar) (line : Line) → Stands draft s → HasColumnsOf answer line → IsTaken (judge_columns s line.bytes) draft') where
+    module _ (takes : (s : DeckSoFar) (line : Line) → IsDraftOf draft s → HasColumnsOf answer line → IsTaken (judge_columns s line.bytes) draft') where
       taken : IsTaken (judge_columns h.so_far answered_line.line.bytes) draft'
       taken = takes h.so_far answered_line.line h.stands answered_line.columns
 
       judged : judge_line reader.since h.so_far answered_line.line ≡ Ok taken.0
       judged = judged_within reader.since h.so_far answered_line.line answered_line.within ∙ taken.1
 
-      pub next_stands : (s : DeckSoFar) × Stands draft' s
+      pub next_stands : (s : DeckSoFar) × IsDraftOf draft' s
       next_stands = (taken.0, taken.2)
 
       -- after a fault of the deck's end the reader stands behind its last line
-      pub stands_at_end : (result : Result Deck DeckFault) → ((s : DeckSoFar) (line : ℕ) → Stands draft' s → IsEnd s line result) → ¬ IsErrOf result fault.Read → IfErr result (λ f. StandsAfter f reader')
+      pub stands_at_end : (result : Result Deck DeckFault) → ((s : DeckSoFar) (line : ℕ) → IsDraftOf draft' s → IsEnd s line result) → ¬ IsErrOf result fault.Read
+          → IfErr result (λ f. StandsAfter f reader')
       stands_at_end result end other = after_end taken.0 reader'.count reader' result sound_next (end taken.0 reader'.count taken.2) other
 
-      module _ (last : Bool) (tells : (s : DeckSoFar) → Stands draft' s → last ≡ has_finished s.begun) where
+      module _ (last : Bool) (tells : (s : DeckSoFar) → IsDraftOf draft' s → last ≡ has_finished s.begun) where
         pub reached_next : last ≡ false → Reached start text left' reader' draft'
         reached_next other =
             let l = answered_line in
@@ -372,7 +373,7 @@ module _ (start : List ℕ) (text left : Option (List ℕ)) (reader : ReaderStat
             ∙ ends reader.count reader.since h.so_far taken.0 l.line here.0 judged (sym (tells taken.0 taken.2) ∙ is)
             ∙ ap (finished taken.0) (sym l.count)) h.run
 
-        module _ (is : last ≡ true) (result : Result Deck DeckFault) (end : (s : DeckSoFar) (line : ℕ) → Stands draft' s → IsEnd s line result) where
+        module _ (is : last ≡ true) (result : Result Deck DeckFault) (end : (s : DeckSoFar) (line : ℕ) → IsDraftOf draft' s → IsEnd s line result) where
           pub deck_read : IfOk result (λ d. IfSome (prepend_known start text) (λ t. IsDeckOf t d reader'.count))
           deck_read = deck_at_end (prepend_known start text) taken.0 reader'.count (text_finished is) result (end taken.0 reader'.count taken.2)
 
@@ -387,7 +388,7 @@ lines_first left reader fresh = sym (ap (λ n. option_map (drop n) (lines_left r
     all None = refl
     all (Some lines) = refl
 
-pub reached_start : (left : Option (List ℕ)) (reader : ReaderState) (draft : Draft) → IsFresh reader → Stands draft no_cards → Reached reader.kept left left reader draft
+pub reached_start : (left : Option (List ℕ)) (reader : ReaderState) (draft : Draft) → IsFresh reader → IsDraftOf draft no_cards → Reached reader.kept left left reader draft
 reached_start left reader draft fresh stands = record {
   so_far = no_cards;
   stands = stands;

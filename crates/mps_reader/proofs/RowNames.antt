@@ -10,7 +10,7 @@ use Rattle.mps_model.specs.DeckSoFar.{DeckSoFar, RowPlace, dropped, free_place, 
 use Rattle.mps_reader.proofs.Names.{same_bytes-flipped}
 use Rattle.mps_reader.proofs.Positions.{is_some-position, list_any-same, position-next, position-same}
 use Rattle.mps_reader.specs.declared.draft.Draft.{Draft}
-use Rattle.mps_reader.specs.Inner.Standing.{Stands, slot_of, slot_with}
+use Rattle.mps_reader.specs.Inner.Standing.{IsDraftOf, slot_of, slot_with}
 
 -- a name's place among names, sought by its bytes
 pub position-name : (name : List ℕ) (names : List (List ℕ)) → position (pointwise nat_eq name) names ≡ position (λ n. same_bytes n name) names
@@ -50,7 +50,7 @@ abbrev pub place_with : Option ℕ → Option RowPlace → Option RowPlace
 place_with None free = free
 place_with (Some i) free = Some (row i)
 
-module _ (draft : Draft) (s : DeckSoFar) (stands : Stands draft s) (name : List ℕ) where
+module _ (draft : Draft) (s : DeckSoFar) (stands : IsDraftOf draft s) (name : List ℕ) where
   place_of-with : place_of s name ≡ place_with (find_row s.deck name) (free_place s.free_rows name)
   place_of-with = by (find_row s.deck name)
     where
@@ -82,7 +82,7 @@ place_by-later : (k : ℕ) → k ≢ 0 → place_by (Some k) ≡ Some dropped
 place_by-later zero ne = absurd (ne refl)
 place_by-later (suc k) ne = refl
 
-module _ (draft : Draft) (s : DeckSoFar) (stands : Stands draft s) (name : List ℕ) where
+module _ (draft : Draft) (s : DeckSoFar) (stands : IsDraftOf draft s) (name : List ℕ) where
   pub row_at : (i : ℕ) → find_row draft.deck name ≡ Some i → Some (row i) ≡ place_of s name
   row_at i found = sym (place_of-by draft s stands name ∙ ap (λ o. place_with o (place_by (position (pointwise nat_eq name) draft.free_rows.keys))) found)
 

@@ -22,7 +22,7 @@ use Rattle.mps_model.specs.RowCards.{judge_row, row_type_of, with_free_row, with
 use Rattle.mps_reader.specs.declared.bounds.Ends.{Ends}
 use Rattle.mps_reader.specs.declared.draft.Draft.{Draft}
 use Rattle.mps_reader.specs.declared.draft.Place.{Place}
-use Rattle.mps_reader.specs.Inner.Standing.{InRows, IsOrdered, Stands, deck_with, is_lowered, no_objective_name, place_is}
+use Rattle.mps_reader.specs.Inner.Standing.{InRows, IsOrdered, IsDraftOf, deck_with, is_lowered, no_objective_name, place_is}
 use Rattle.mps_reader.proofs.Positions.{is_some-position}
 use Rattle.mps_reader.proofs.Names.{length-same}
 use Rattle.mps_reader.proofs.RowNames.{unplaced}
@@ -33,7 +33,8 @@ use Rattle.mps_reader.proofs.Slots.{unmarked_none}
 abbrev pub objective_after : List (List ℕ) → Deck → List ℕ → Deck
 objective_after free_rows d name = elim free_rows [ [] ↦ record d { objective = name } | first ∷ others ↦ d ]
 
-deck_after : (free_rows : List (List ℕ)) (d : Deck) (name : List ℕ) (ends : List Ends) → objective_after free_rows (deck_with d free_rows ends) name ≡ deck_with (objective_after free_rows d name) (free_rows ++ name ∷ []) ends
+deck_after : (free_rows : List (List ℕ)) (d : Deck) (name : List ℕ) (ends : List Ends)
+    → objective_after free_rows (deck_with d free_rows ends) name ≡ deck_with (objective_after free_rows d name) (free_rows ++ name ∷ []) ends
 deck_after [] d name ends = refl
 deck_after (first ∷ others) d name ends = refl
 
@@ -41,7 +42,8 @@ columns_after : (free_rows : List (List ℕ)) (d : Deck) (name : List ℕ) → (
 columns_after [] d name = refl
 columns_after (first ∷ others) d name = refl
 
-name_after : (free_rows : List (List ℕ)) (d : Deck) (name other : List ℕ) → d.objective ≡ slice_index_or free_rows 0 other → (objective_after free_rows d name).objective ≡ slice_index_or (free_rows ++ name ∷ []) 0 other
+name_after : (free_rows : List (List ℕ)) (d : Deck) (name other : List ℕ) → d.objective ≡ slice_index_or free_rows 0 other
+    → (objective_after free_rows d name).objective ≡ slice_index_or (free_rows ++ name ∷ []) 0 other
 name_after [] d name other e = refl
 name_after (first ∷ others) d name other e = e
 
@@ -56,11 +58,13 @@ later_named [] d name ne = absurd (ne refl)
 later_named (first ∷ others) d name ne = refl
 
 -- a name that is not among the keys goes last
-pub inserted : (before after : List (List ℕ)) (name : List ℕ) → after ≡ (if list_any (pointwise nat_eq name) before then before else before ++ name ∷ []) → position (pointwise nat_eq name) before ≡ None → after ≡ before ++ name ∷ []
+pub inserted : (before after : List (List ℕ)) (name : List ℕ) → after ≡ (if list_any (pointwise nat_eq name) before then before else before ++ name ∷ [])
+    → position (pointwise nat_eq name) before ≡ None → after ≡ before ++ name ∷ []
 inserted before after name e none = e ∙ ap (λ b. if b then before else before ++ name ∷ []) (sym (is_some-position (pointwise nat_eq name) before) ∙ ap is_some none)
 
 -- a name that is no N row's is not the first one's
-first_apart : (free_rows : List (List ℕ)) (name other : List ℕ) → position (pointwise nat_eq name) free_rows ≡ None → same_bytes other name ≡ false → same_bytes (slice_index_or free_rows 0 other) name ≡ false
+first_apart : (free_rows : List (List ℕ)) (name other : List ℕ) → position (pointwise nat_eq name) free_rows ≡ None → same_bytes other name ≡ false
+    → same_bytes (slice_index_or free_rows 0 other) name ≡ false
 first_apart [] name other none e = e
 first_apart (first ∷ others) name other none e =
     same_bytes-flip first name
@@ -76,7 +80,7 @@ short_apart name short = by (same_bytes no_objective_name name) refl
         let long : 12 ≡ length name = length-same no_objective_name name e in
         absurd (omega arith)
 
-module _ (draft : Draft) (s : DeckSoFar) (h : Stands draft s) (at : InRows draft) where
+module _ (draft : Draft) (s : DeckSoFar) (h : IsDraftOf draft s) (at : InRows draft) where
   -- in the section of the rows the columns have not begun
   pub no_columns : has_begun Columns s.begun ≡ false
   no_columns =
@@ -88,7 +92,7 @@ module _ (draft : Draft) (s : DeckSoFar) (h : Stands draft s) (at : InRows draft
 
   grown : (new : Draft) (deck : Deck) (free_rows : List (List ℕ)) → new.begun ≡ draft.begun → new.set ≡ draft.set → new.named ≡ draft.named → new.bounds ≡ draft.bounds
       → deck ≡ deck_with new.deck new.free_rows.keys new.bounds.items → free_rows ≡ new.free_rows.keys → new.deck.columns ≡ draft.deck.columns
-      → new.deck.objective ≡ slice_index_or new.free_rows.keys 0 no_objective_name → Stands new (record s { deck = deck; free_rows = free_rows })
+      → new.deck.objective ≡ slice_index_or new.free_rows.keys 0 no_objective_name → IsDraftOf new (record s { deck = deck; free_rows = free_rows })
   grown new deck free_rows begun set named bounds is names columns_same objective =
       let blank : new.named ≡ [] = named ∙ h.blank no_columns in
       record {
@@ -109,7 +113,7 @@ module _ (draft : Draft) (s : DeckSoFar) (h : Stands draft s) (at : InRows draft
 
   -- an N row more
   pub free_row_added : (name : List ℕ) (new : Draft) → new.begun ≡ draft.begun → new.set ≡ draft.set → new.named ≡ draft.named → new.bounds ≡ draft.bounds
-      → new.deck ≡ objective_after draft.free_rows.keys draft.deck name → new.free_rows.keys ≡ draft.free_rows.keys ++ name ∷ [] → Stands new (with_free_row s name)
+      → new.deck ≡ objective_after draft.free_rows.keys draft.deck name → new.free_rows.keys ≡ draft.free_rows.keys ++ name ∷ [] → IsDraftOf new (with_free_row s name)
   free_row_added name new begun set named bounds deck keys =
       grown new (objective_after s.free_rows s.deck name) (s.free_rows ++ name ∷ []) begun set named bounds
       (ap₂ (λ names d. objective_after names d name) h.free_rows h.deck
@@ -122,7 +126,7 @@ module _ (draft : Draft) (s : DeckSoFar) (h : Stands draft s) (at : InRows draft
 
   -- a row more
   pub row_added : (name : List ℕ) (kind : RowKind) (new : Draft) → new.begun ≡ draft.begun → new.set ≡ draft.set → new.named ≡ draft.named → new.bounds ≡ draft.bounds
-      → new.deck ≡ with_row draft.deck name kind → new.free_rows ≡ draft.free_rows → Stands new (record s { deck = with_row s.deck name kind })
+      → new.deck ≡ with_row draft.deck name kind → new.free_rows ≡ draft.free_rows → IsDraftOf new (record s { deck = with_row s.deck name kind })
   row_added name kind new begun set named bounds deck free_rows =
       grown new (with_row s.deck name kind) s.free_rows begun set named bounds
       (ap (λ d. with_row d name kind) h.deck

@@ -11,7 +11,7 @@ use Rattle.lp_text.specs.declared.LineFault.TheVariants as fault
 use Rattle.mps_model.specs.DeckSoFar.{DeckSoFar}
 use Rattle.mps_model.specs.Judgement.{begin_section, judge_section}
 use Rattle.mps_reader.specs.declared.draft.Draft.{Draft}
-use Rattle.mps_reader.specs.Inner.Standing.{Stands, deck_with, is_lowered, is_marked, no_objective_name, slot_of}
+use Rattle.mps_reader.specs.Inner.Standing.{IsDraftOf, deck_with, is_lowered, is_marked, no_objective_name, slot_of}
 use Rattle.mps_reader.proofs.SectionOrder.{not_yet, title_first}
 use Rattle.mps_reader.proofs.Slots.{unmarked, unmarked_none}
 
@@ -19,13 +19,13 @@ use Rattle.mps_reader.proofs.Slots.{unmarked, unmarked_none}
 no_entry : (d : Deck) (i : ℕ) → d.columns ≡ [] → has_entry (column d (length d.columns - 1)).entries i ≡ false
 no_entry d i e = ap (λ cs. has_entry (get_or cs (length cs - 1) no_column).entries i) e
 
-module _ (draft : Draft) (s : DeckSoFar) (h : Stands draft s) where
+module _ (draft : Draft) (s : DeckSoFar) (h : IsDraftOf draft s) where
   opened : (k : Section) (new : Draft) → new.begun.items ≡ k ∷ draft.begun.items → new.deck ≡ draft.deck → new.free_rows ≡ draft.free_rows → new.set ≡ None → new.bounds ≡ draft.bounds
       → (n : ℕ) → new.named ≡ replicate n None → may_begin k s.begun ≡ true
       → (has_begun Columns (k ∷ s.begun) ≡ true → n ≡ length draft.deck.rows + length draft.free_rows.keys)
       → (has_begun Columns (k ∷ s.begun) ≡ false → (draft.deck.columns ≡ []) × (n ≡ 0))
       → (k ≡ Columns → draft.deck.columns ≡ [])
-      → Stands new (record s { begun = k ∷ s.begun; set = None; named = [] })
+      → IsDraftOf new (record s { begun = k ∷ s.begun; set = None; named = [] })
   opened k new begun deck free_rows set bounds n named may full empty first = record {
     begun = ap (λ b. k ∷ b) h.begun ∙ sym (begun);
     deck = h.deck ∙ ap₂ (λ d names. deck_with d names.keys draft.bounds.items) (sym deck) (sym free_rows) ∙ ap (λ b. deck_with new.deck new.free_rows.keys b.items) (sym bounds);
@@ -46,15 +46,17 @@ module _ (draft : Draft) (s : DeckSoFar) (h : Stands draft s) where
   }
 
   -- the columns, which have named no row
-  pub columns_begun : (new : Draft) (fields : List (List ℕ)) → new.begun.items ≡ Columns ∷ draft.begun.items → new.deck ≡ draft.deck → new.free_rows ≡ draft.free_rows → new.set ≡ None → new.bounds ≡ draft.bounds
-      → new.named ≡ replicate (length draft.deck.rows + length draft.free_rows.keys) None → may_begin Columns s.begun ≡ true → Stands new (begin_section s Columns fields)
+  pub columns_begun : (new : Draft) (fields : List (List ℕ)) → new.begun.items ≡ Columns ∷ draft.begun.items → new.deck ≡ draft.deck
+      → new.free_rows ≡ draft.free_rows → new.set ≡ None → new.bounds ≡ draft.bounds
+      → new.named ≡ replicate (length draft.deck.rows + length draft.free_rows.keys) None → may_begin Columns s.begun ≡ true → IsDraftOf new (begin_section s Columns fields)
   columns_begun new fields begun deck free_rows set bounds named may =
       opened Columns new begun deck free_rows set bounds (length draft.deck.rows + length draft.free_rows.keys) named may
       (λ e. refl) (λ e. absurd (cc e)) (λ e. h.early (not_yet s.begun may))
 
   -- another section than the title and the columns
-  pub other_begun : (k : Section) → k ≢ Title → k ≢ Columns → (new : Draft) (fields : List (List ℕ)) → new.begun.items ≡ k ∷ draft.begun.items → new.deck ≡ draft.deck → new.free_rows ≡ draft.free_rows → new.set ≡ None
-      → new.bounds ≡ draft.bounds → new.named ≡ replicate (length draft.named) None → may_begin k s.begun ≡ true → Stands new (begin_section s k fields)
+  pub other_begun : (k : Section) → k ≢ Title → k ≢ Columns → (new : Draft) (fields : List (List ℕ)) → new.begun.items ≡ k ∷ draft.begun.items
+      → new.deck ≡ draft.deck → new.free_rows ≡ draft.free_rows → new.set ≡ None
+      → new.bounds ≡ draft.bounds → new.named ≡ replicate (length draft.named) None → may_begin k s.begun ≡ true → IsDraftOf new (begin_section s k fields)
   other_begun Title nt nc new fields begun deck free_rows set bounds named may = absurd (nt refl)
   other_begun Columns nt nc new fields begun deck free_rows set bounds named may = absurd (nc refl)
   other_begun Rows nt nc new fields begun deck free_rows set bounds named may =
@@ -69,8 +71,9 @@ module _ (draft : Draft) (s : DeckSoFar) (h : Stands draft s) where
       opened Finish new begun deck free_rows set bounds (length draft.named) named may h.marks (λ e. (h.early e, ap length (h.blank e))) (λ e. absurd (cc e))
 
   -- the title, which comes first
-  pub title_begun : (new : Draft) (fields : List (List ℕ)) → new.begun.items ≡ Title ∷ draft.begun.items → new.deck ≡ record draft.deck { name = field_of fields 3 } → new.free_rows ≡ draft.free_rows → new.set ≡ draft.set
-      → new.bounds ≡ draft.bounds → new.named ≡ draft.named → may_begin Title s.begun ≡ true → Stands new (begin_section s Title fields)
+  pub title_begun : (new : Draft) (fields : List (List ℕ)) → new.begun.items ≡ Title ∷ draft.begun.items
+      → new.deck ≡ record draft.deck { name = field_of fields 3 } → new.free_rows ≡ draft.free_rows → new.set ≡ draft.set
+      → new.bounds ≡ draft.bounds → new.named ≡ draft.named → may_begin Title s.begun ≡ true → IsDraftOf new (begin_section s Title fields)
   title_begun new fields begun deck free_rows set bounds named may =
       let none : s.begun ≡ [] = title_first s.begun may in
       let early : has_begun Columns s.begun ≡ false = ap (has_begun Columns) none in

@@ -8,10 +8,10 @@ use Rattle.lp_model.specs.Edit.{same_bytes}
 use Rattle.mps_model.specs.DeckSoFar.{DeckSoFar}
 use Rattle.mps_model.specs.PairCards.{with_set}
 use Rattle.mps_reader.specs.declared.draft.Draft.{Draft}
-use Rattle.mps_reader.specs.Inner.Standing.{Stands}
+use Rattle.mps_reader.specs.Inner.Standing.{IsDraftOf}
 
-module _ (draft : Draft) (s : DeckSoFar) (h : Stands draft s) (name : List ℕ) where
-  with_set-stands : (set : Option (List ℕ)) → set ≡ Some (unwrap_or s.set name) → Stands (record draft { set = set }) (with_set s name)
+module _ (draft : Draft) (s : DeckSoFar) (h : IsDraftOf draft s) (name : List ℕ) where
+  with_set-stands : (set : Option (List ℕ)) → set ≡ Some (unwrap_or s.set name) → IsDraftOf (record draft { set = set }) (with_set s name)
   with_set-stands set is = record {
     begun = h.begun;
     deck = h.deck;
@@ -29,15 +29,15 @@ module _ (draft : Draft) (s : DeckSoFar) (h : Stands draft s) (name : List ℕ) 
   }
 
   -- a card names a set where the section has one
-  pub set_compared : (set : List ℕ) (b : Bool) → draft.set ≡ Some set → b ≡ pointwise nat_eq set name → (b ≡ same_bytes (unwrap_or s.set name) name) × Stands draft (if b then with_set s name else s)
+  pub set_compared : (set : List ℕ) (b : Bool) → draft.set ≡ Some set → b ≡ pointwise nat_eq set name → (b ≡ same_bytes (unwrap_or s.set name) name) × IsDraftOf draft (if b then with_set s name else s)
   set_compared set b is e = (e ∙ sym (same_bytes-pointwise set name) ∙ ap (λ o. same_bytes (unwrap_or o name) name) (sym (h.set ∙ is)), by b)
     where
-      by : (t : Bool) → Stands draft (if t then with_set s name else s)
+      by : (t : Bool) → IsDraftOf draft (if t then with_set s name else s)
       by true = with_set-stands draft.set (is ∙ sym (ap (λ o. Some (unwrap_or o name)) (h.set ∙ is)))
       by false = h
 
   -- the section's first card names its set
-  pub set_taken : (set : List ℕ) → draft.set ≡ None → set ≡ name → (true ≡ same_bytes (unwrap_or s.set name) name) × Stands (record draft { set = Some set }) (with_set s name)
+  pub set_taken : (set : List ℕ) → draft.set ≡ None → set ≡ name → (true ≡ same_bytes (unwrap_or s.set name) name) × IsDraftOf (record draft { set = Some set }) (with_set s name)
   set_taken set none is = (
     sym (ap (λ o. same_bytes (unwrap_or o name) name) (h.set ∙ none) ∙ same_bytes-pointwise name name ∙ nat_list_eq_equiv.refl name),
     with_set-stands (Some set) (ap Some is ∙ sym (ap (λ o. Some (unwrap_or o name)) (h.set ∙ none))),

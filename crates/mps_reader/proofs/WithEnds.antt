@@ -41,7 +41,8 @@ module _ (f : Column → ℕ) (blind : (c : Column) (b : Interval) → f (record
       ∙ sym (sum_by-cons f c cs)
 
 -- one column more, with its ends
-pub push-with_ends : (cs : List Column) (ends : List Ends) (c : Column) (e : Ends) → length ends ≡ length cs → with_ends (cs ++ c ∷ []) (ends ++ e ∷ []) ≡ with_ends cs ends ++ record c { bounds = interval_of e } ∷ []
+pub push-with_ends : (cs : List Column) (ends : List Ends) (c : Column) (e : Ends) → length ends ≡ length cs
+    → with_ends (cs ++ c ∷ []) (ends ++ e ∷ []) ≡ with_ends cs ends ++ record c { bounds = interval_of e } ∷ []
 push-with_ends [] [] c e same = refl
 push-with_ends [] (x ∷ ends) c e same = absurd (cc same)
 push-with_ends (b ∷ cs) [] c e same = absurd (cc same)
@@ -71,13 +72,15 @@ module _ (d : Deck) (free_rows : List (List ℕ)) (ends : List Ends) where
   deck_with-entry_count = sum_by-with_ends (λ c. length c.entries + cond (eq_ℚ c.cost zero_ℚ) 0 1) (λ c b. refl) d.columns ends
 
   -- a new column, whose ends go to the end
-  pub deck_with-with_column : (name : List ℕ) (e : Ends) → interval_of e ≡ nonnegative → length ends ≡ length d.columns → deck_with (with_column d name) free_rows (ends ++ e ∷ []) ≡ with_column (deck_with d free_rows ends) name
+  pub deck_with-with_column : (name : List ℕ) (e : Ends) → interval_of e ≡ nonnegative → length ends ≡ length d.columns
+      → deck_with (with_column d name) free_rows (ends ++ e ∷ []) ≡ with_column (deck_with d free_rows ends) name
   deck_with-with_column name e up same =
       ap (λ cs. record (deck_with d free_rows ends) { columns = cs })
       (push-with_ends d.columns ends (record no_column { name = name }) e same ∙ ap (λ b. with_ends d.columns ends ++ record no_column { name = name; bounds = b } ∷ []) up)
 
   -- a change of one column that leaves its bounds
-  pub deck_with-change_column : (f : Column → Column) → ((c : Column) (b : Interval) → f (record c { bounds = b }) ≡ record (f c) { bounds = b }) → (j : ℕ) → change_column (deck_with d free_rows ends) j f ≡ deck_with (change_column d j f) free_rows ends
+  pub deck_with-change_column : (f : Column → Column) → ((c : Column) (b : Interval) → f (record c { bounds = b }) ≡ record (f c) { bounds = b }) → (j : ℕ)
+      → change_column (deck_with d free_rows ends) j f ≡ deck_with (change_column d j f) free_rows ends
   deck_with-change_column f blind j = ap (λ cs. record (deck_with d free_rows ends) { columns = cs }) (set-with_ends f blind d.columns ends j)
 
   pub deck_with-with_cost : (j : ℕ) (v : ℚ) → with_cost (deck_with d free_rows ends) j v ≡ deck_with (with_cost d j v) free_rows ends

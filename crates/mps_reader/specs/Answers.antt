@@ -26,7 +26,8 @@ pub record HasAnswered (n : ℕ) (reader : ReaderState) : Type 0 where
   pub sound : reader.fault ≡ None
   pub count : reader.count ≡ n
 
--- where the reader stands at a text's fault: past the limit of bytes it gives that fault again; else it is behind the line whose card has the fault, at the end of the text, or behind lines that are not said where the deck's end has it
+-- where the reader stands at a text's fault: past the limit of bytes it gives that fault again; else it is behind the line whose card has the fault, at the
+-- end of the text, or behind lines that are not said where the deck's end has it
 abbrev pub StandsAt : TextFault → ReaderState → Type 0
 StandsAt (in_line n (Limit Bytes)) reader = reader.fault ≡ Some (TooMany n)
 StandsAt (in_line n other) reader = HasAnswered n reader

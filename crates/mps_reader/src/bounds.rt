@@ -6,7 +6,7 @@ ghost use Rattle.mps_model.specs.DeckSoFar.{DeckSoFar};
 ghost use Rattle.mps_model.specs.BoundCards.{bound_number, bounds_after, has_number, infinity, is_wrong_infinity, judge_bound, kind_of, lower_end, sets_lower, upper_end};
 ghost use Rattle.mps_model.specs.DeckOf.{is_crossed};
 ghost use Rattle.mps_reader.specs.Inner.Refusals.{line_fault};
-ghost use Rattle.mps_reader.specs.Inner.Standing.{IsFound, Judged, Stands, interval_of};
+ghost use Rattle.mps_reader.specs.Inner.Standing.{IsFound, Judged, IsDraftOf, interval_of};
 
 use crate::draft::Draft;
 use crate::refusal::Refusal;
@@ -188,8 +188,8 @@ impl Ends {
 impl Draft {
     // Takes a bound.
     pub(crate) fn take_bound(&mut self, alloc: Global, fields: &Fields) -> Result<(), Refusal>
-        requires { (s : DeckSoFar) × Stands self.old s }
-        ensures { (s : DeckSoFar) → Stands self.old s → Judged (judge_bound s fields.now) self.new result }
+        requires { (s : DeckSoFar) × IsDraftOf self.old s }
+        ensures { (s : DeckSoFar) → IsDraftOf self.old s → Judged (judge_bound s fields.now) self.new result }
     {
         let kind = kind_of(fields.get(1))?;
         let name = Name::of(alloc, fields.get(3))?;

@@ -7,7 +7,7 @@ ghost use Rattle.mps_cards.specs.Splitting.{text_card};
 ghost use Rattle.mps_model.specs.DeckSoFar.{DeckSoFar, no_cards, place_of};
 ghost use Rattle.mps_model.specs.Judgement.{has_finished, judge_card, judge_data, judge_section};
 ghost use Rattle.mps_model.specs.PairCards.{judge_in_set, with_set};
-ghost use Rattle.mps_reader.specs.Inner.Standing.{Judged, MayUse, Stands, is_marked, place_is, set_judge, slot_is, slot_of};
+ghost use Rattle.mps_reader.specs.Inner.Standing.{Judged, MayUse, IsDraftOf, is_marked, place_is, set_judge, slot_is, slot_of};
 
 use crate::bounds::Ends;
 use crate::pairs::Use;
@@ -51,7 +51,7 @@ pub(crate) struct Draft {
 impl Draft {
     // A deck that no card has come to.
     pub(crate) fn new(alloc: Global) -> Result<Draft, Memory>
-        ensures { IfOk result (λ draft. Stands draft no_cards) }
+        ensures { IfOk result (λ draft. IsDraftOf draft no_cards) }
     {
         Ok(Draft {
             begun: Vec::new(alloc),
@@ -65,9 +65,9 @@ impl Draft {
 
     // Takes the next card, whose second field has at most 8 bytes.
     pub(crate) fn take(&mut self, alloc: Global, card: &Card) -> Result<(), Refusal>
-        requires stands { (s : DeckSoFar) × Stands self.old s }
+        requires stands { (s : DeckSoFar) × IsDraftOf self.old s }
         requires short { length (field_of card.now.fields 2) ≤ 8 }
-        ensures { (s : DeckSoFar) → Stands self.old s → Judged (judge_card s (text_card card.now)) self.new result }
+        ensures { (s : DeckSoFar) → IsDraftOf self.old s → Judged (judge_card s (text_card card.now)) self.new result }
     {
         match card.kind {
             CardKind::Section => self.begin(alloc, &card.fields),
@@ -77,8 +77,8 @@ impl Draft {
 
     // Begins a section.
     fn begin(&mut self, alloc: Global, fields: &Fields) -> Result<(), Refusal>
-        requires { (s : DeckSoFar) × Stands self.old s }
-        ensures { (s : DeckSoFar) → Stands self.old s → Judged (judge_section s fields.now) self.new result }
+        requires { (s : DeckSoFar) × IsDraftOf self.old s }
+        ensures { (s : DeckSoFar) → IsDraftOf self.old s → Judged (judge_section s fields.now) self.new result }
     {
         let Some(section) = section_of(fields.get(1)) else {
             return Err(Refusal::Fault(LineFault::Section));
@@ -108,9 +108,9 @@ impl Draft {
 
     // Takes a card of data, by the section that it stands in.
     fn take_data(&mut self, alloc: Global, fields: &Fields) -> Result<(), Refusal>
-        requires stands { (s : DeckSoFar) × Stands self.old s }
+        requires stands { (s : DeckSoFar) × IsDraftOf self.old s }
         requires short { length (field_of fields.now 2) ≤ 8 }
-        ensures { (s : DeckSoFar) → Stands self.old s → Judged (judge_data s.begun s fields.now) self.new result }
+        ensures { (s : DeckSoFar) → IsDraftOf self.old s → Judged (judge_data s.begun s fields.now) self.new result }
     {
         let Some(section) = self.begun.first().copied() else {
             return Err(Refusal::Fault(LineFault::Section));
@@ -133,9 +133,9 @@ impl Draft {
         pairs: Option<Use>,
         fields: &Fields,
     ) -> Result<(), Refusal>
-        requires stands { (s : DeckSoFar) × Stands self.old s }
+        requires stands { (s : DeckSoFar) × IsDraftOf self.old s }
         requires may { IfSome pairs (λ how. MayUse how self.old) }
-        ensures { (s : DeckSoFar) → Stands self.old s → Judged (judge_in_set (set_judge pairs) s fields.now) self.new result }
+        ensures { (s : DeckSoFar) → IsDraftOf self.old s → Judged (judge_in_set (set_judge pairs) s fields.now) self.new result }
     {
         if !self.is_of_set(alloc, fields.get(2))? {
             return Ok(());
@@ -149,7 +149,8 @@ impl Draft {
     // Whether the set of this name is the one that the section uses; its first card's name becomes that.
     fn is_of_set(&mut self, alloc: Global, name: &[u8]) -> Result<bool, Memory>
         ensures kept { self.new ≡ record self.old { set = self.new.set } }
-        ensures used { (s : DeckSoFar) → Stands self.old s → IfOk result (λ used. (used ≡ same_bytes (unwrap_or s.set name.now) name.now) × Stands self.new (if used then with_set s name.now else s)) }
+        ensures used { (s : DeckSoFar) → IsDraftOf self.old s
+            → IfOk result (λ used. (used ≡ same_bytes (unwrap_or s.set name.now) name.now) × IsDraftOf self.new (if used then with_set s name.now else s)) }
     {
         match &self.set {
             Some(set) => Ok(set.bytes() == name),
@@ -162,14 +163,14 @@ impl Draft {
 
     // Whether the last card ended the deck.
     pub(crate) fn has_finished(&self) -> bool
-        ensures { (s : DeckSoFar) → Stands self.now s → result ≡ has_finished s.begun }
+        ensures { (s : DeckSoFar) → IsDraftOf self.now s → result ≡ has_finished s.begun }
     {
         self.begun.first() == Some(&Section::Finish)
     }
 
     // What a row's name stands for, if it is one.
     pub(crate) fn place(&self, name: &Name) -> Option<Place>
-        ensures place { (s : DeckSoFar) → Stands self.now s → option_map place_is result ≡ place_of s name.now }
+        ensures place { (s : DeckSoFar) → IsDraftOf self.now s → option_map place_is result ≡ place_of s name.now }
         ensures slot { option_map (slot_is (length self.now.deck.rows)) result ≡ slot_of self.now.deck self.now.free_rows.keys name.now }
     {
         if let Some(row) = self.deck.find_row(name) {

@@ -3,7 +3,7 @@ ghost use Rattle.std.specs.Prelude.{◌≡◌, ℕ, MatchResult, IfSome, IsErrOf
 ghost use Rattle.mps_model.specs.DeckSoFar.{DeckSoFar};
 ghost use Rattle.mps_model.specs.DeckOf.{finished, has_fault, is_deck};
 ghost use Rattle.mps_reader.specs.Faults.{text_fault};
-ghost use Rattle.mps_reader.specs.Inner.Standing.{Stands};
+ghost use Rattle.mps_reader.specs.Inner.Standing.{IsDraftOf};
 
 use crate::draft::Draft;
 use crate::faults::DeckFault;
@@ -13,8 +13,8 @@ use std::alloc::Global;
 impl Draft {
     // The deck, with its bounds.
     pub(crate) fn into_deck(self, alloc: Global) -> Result<Deck, DeckFault>
-        requires { (s : DeckSoFar) × Stands self s }
-        ensures end { (s : DeckSoFar) (line : ℕ) → Stands self s → MatchResult result
+        requires { (s : DeckSoFar) × IsDraftOf self s }
+        ensures end { (s : DeckSoFar) (line : ℕ) → IsDraftOf self s → MatchResult result
             (λ deck. finished s line ≡ is_deck deck line) (λ fault. IfSome (text_fault fault) (λ first. finished s line ≡ has_fault first)) }
         ensures no_read { ¬ IsErrOf result DeckFault.Read }
     {

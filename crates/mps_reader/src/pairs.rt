@@ -6,7 +6,7 @@ ghost use Rattle.mps_model.specs.DeckSoFar.{DeckSoFar};
 ghost use Rattle.mps_model.specs.PairCards.{at_column, begin_column, has_second_pair, is_marker, judge_column, judge_pair, judge_pairs};
 ghost use Rattle.mps_reader.specs.Inner.Uses.{use_is};
 ghost use Rattle.mps_reader.specs.Inner.Placed.{IsAmongRows, IsRoom, IsVacant, IsVacantFor, deck_after, has_room_at, has_room_for, has_room_in, with_number, with_range_at, with_right_at};
-ghost use Rattle.mps_reader.specs.Inner.Standing.{InColumns, IsLast, Judged, MayUse, Stands};
+ghost use Rattle.mps_reader.specs.Inner.Standing.{InColumns, IsLast, Judged, MayUse, IsDraftOf};
 
 use crate::bounds::Ends;
 use crate::draft::{Draft, Place};
@@ -64,9 +64,9 @@ fn has_second_pair(fields: &Fields) -> bool
 impl Draft {
     // Takes a card of a column.
     pub(crate) fn take_column(&mut self, alloc: Global, fields: &Fields) -> Result<(), Refusal>
-        requires stands { (s : DeckSoFar) × Stands self.old s }
+        requires stands { (s : DeckSoFar) × IsDraftOf self.old s }
         requires at { InColumns self.old }
-        ensures { (s : DeckSoFar) → Stands self.old s → Judged (judge_column s fields.now) self.new result }
+        ensures { (s : DeckSoFar) → IsDraftOf self.old s → Judged (judge_column s fields.now) self.new result }
     {
         if has_marker(fields) {
             return Err(Refusal::Fault(LineFault::Integer));
@@ -77,9 +77,9 @@ impl Draft {
 
     // Makes the column of this name the last one, where it is that already or is new.
     fn at_column(&mut self, alloc: Global, name: &[u8]) -> Result<(), Refusal>
-        requires stands { (s : DeckSoFar) × Stands self.old s }
+        requires stands { (s : DeckSoFar) × IsDraftOf self.old s }
         requires at { InColumns self.old }
-        ensures judged { (s : DeckSoFar) → Stands self.old s → Judged (at_column s name.now) self.new result }
+        ensures judged { (s : DeckSoFar) → IsDraftOf self.old s → Judged (at_column s name.now) self.new result }
         ensures at { OnOk result (MayUse Use.InColumn self.new) }
     {
         if self.is_last_column(name) {
@@ -105,10 +105,10 @@ impl Draft {
 
     // Adds a column.
     fn begin_column(&mut self, name: Name) -> Result<(), Refusal>
-        requires stands { (s : DeckSoFar) × Stands self.old s }
+        requires stands { (s : DeckSoFar) × IsDraftOf self.old s }
         requires at { InColumns self.old }
         requires new { find_column self.old.deck name ≡ None }
-        ensures judged { (s : DeckSoFar) → Stands self.old s → Judged (begin_column s name) self.new result }
+        ensures judged { (s : DeckSoFar) → IsDraftOf self.old s → Judged (begin_column s name) self.new result }
         ensures at { OnOk result (MayUse Use.InColumn self.new) }
     {
         if self.deck.columns() >= COLUMN_LIMIT {
@@ -127,9 +127,9 @@ impl Draft {
         how: Use,
         fields: &Fields,
     ) -> Result<(), Refusal>
-        requires stands { (s : DeckSoFar) × Stands self.old s }
+        requires stands { (s : DeckSoFar) × IsDraftOf self.old s }
         requires may { MayUse how self.old }
-        ensures { (s : DeckSoFar) → Stands self.old s → Judged (judge_pairs (use_is how) s fields.now) self.new result }
+        ensures { (s : DeckSoFar) → IsDraftOf self.old s → Judged (judge_pairs (use_is how) s fields.now) self.new result }
     {
         self.take_pair(alloc, how, fields.get(3), fields.get(4))?;
         if !has_second_pair(fields) {
@@ -146,9 +146,9 @@ impl Draft {
         name: &[u8],
         text: &[u8],
     ) -> Result<(), Refusal>
-        requires stands { (s : DeckSoFar) × Stands self.old s }
+        requires stands { (s : DeckSoFar) × IsDraftOf self.old s }
         requires may { MayUse how self.old }
-        ensures judged { (s : DeckSoFar) → Stands self.old s → Judged (judge_pair (use_is how) s name.now text.now) self.new result }
+        ensures judged { (s : DeckSoFar) → IsDraftOf self.old s → Judged (judge_pair (use_is how) s name.now text.now) self.new result }
         ensures may { OnOk result (MayUse how self.new) }
     {
         let name = Name::of(alloc, name)?;

@@ -11,7 +11,7 @@ ghost use Rattle.mps_model.specs.DeckSoFar.{DeckSoFar};
 ghost use Rattle.mps_model.specs.Judgement.{judge_columns};
 ghost use Rattle.mps_reader.specs.Answers.{IsFaultOf, IsFresh, IsReadAsNeeded, IsReadFault, StandsAfter};
 ghost use Rattle.mps_reader.specs.Inner.Reached.{HasColumnsOf, IsLineCause, TakesLine};
-ghost use Rattle.mps_reader.specs.Inner.Standing.{Stands};
+ghost use Rattle.mps_reader.specs.Inner.Standing.{IsDraftOf};
 
 use crate::draft::Draft;
 use crate::faults::DeckFault;
@@ -49,9 +49,9 @@ fn next_line<S: Source>(lines: &mut LineReader, source: &mut S) -> Result<Line, 
 
 // Takes the card of a line, if it is one.
 fn take_line(alloc: Global, draft: &mut Draft, line: &Line) -> Result<(), DeckFault>
-    requires stands { (s : DeckSoFar) × Stands draft.old s }
+    requires stands { (s : DeckSoFar) × IsDraftOf draft.old s }
     requires columns { (whole : TextLine) × HasColumnsOf line.now whole }
-    ensures taken { (s : DeckSoFar) (whole : TextLine) → Stands draft.old s → HasColumnsOf line.now whole
+    ensures taken { (s : DeckSoFar) (whole : TextLine) → IsDraftOf draft.old s → HasColumnsOf line.now whole
         → TakesLine line.now.number (judge_columns s whole.bytes) draft.new result }
     ensures no_read { ¬ IsErrOf result DeckFault.Read }
 {

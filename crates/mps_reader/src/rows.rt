@@ -4,7 +4,7 @@ ghost use Rattle.lp_text.specs.Cards.{field_of};
 ghost use Rattle.mps_model.specs.DeckSoFar.{DeckSoFar, place_of};
 ghost use Rattle.mps_model.specs.declared.RowType.TheVariants.{Free, Kept};
 ghost use Rattle.mps_model.specs.RowCards.{judge_row, row_type_of, with_row_of};
-ghost use Rattle.mps_reader.specs.Inner.Standing.{InRows, Judged, Stands};
+ghost use Rattle.mps_reader.specs.Inner.Standing.{InRows, Judged, IsDraftOf};
 
 use crate::draft::Draft;
 use crate::refusal::Refusal;
@@ -30,10 +30,10 @@ fn row_type_of(word: &[u8]) -> Option<RowType>
 impl Draft {
     // Takes a card of the rows, whose name has at most 8 bytes.
     pub(crate) fn take_row(&mut self, alloc: Global, fields: &Fields) -> Result<(), Refusal>
-        requires stands { (s : DeckSoFar) × Stands self.old s }
+        requires stands { (s : DeckSoFar) × IsDraftOf self.old s }
         requires rows { InRows self.old }
         requires short { length (field_of fields.now 2) ≤ 8 }
-        ensures { (s : DeckSoFar) → Stands self.old s → Judged (judge_row s fields.now) self.new result }
+        ensures { (s : DeckSoFar) → IsDraftOf self.old s → Judged (judge_row s fields.now) self.new result }
     {
         let Some(kind) = row_type_of(fields.get(1)) else {
             return Err(Refusal::Fault(LineFault::RowType));
@@ -50,9 +50,9 @@ impl Draft {
 
     // Adds an N row, which is the objective where it is the first.
     fn add_free_row(&mut self, alloc: Global, name: Name) -> Result<(), Refusal>
-        requires stands { (s : DeckSoFar) × Stands self.old s × (place_of s name ≡ None) }
+        requires stands { (s : DeckSoFar) × IsDraftOf self.old s × (place_of s name ≡ None) }
         requires rows { InRows self.old }
-        ensures { (s : DeckSoFar) → Stands self.old s → place_of s name ≡ None → Judged (with_row_of s name Free) self.new result }
+        ensures { (s : DeckSoFar) → IsDraftOf self.old s → place_of s name ≡ None → Judged (with_row_of s name Free) self.new result }
     {
         if self.free_rows.is_empty() {
             self.deck.set_objective(Name::of(alloc, name.bytes())?);
@@ -63,10 +63,10 @@ impl Draft {
 
     // Adds a row that the deck keeps.
     fn add_row(&mut self, name: Name, kind: RowKind) -> Result<(), Refusal>
-        requires stands { (s : DeckSoFar) × Stands self.old s × (place_of s name ≡ None) }
+        requires stands { (s : DeckSoFar) × IsDraftOf self.old s × (place_of s name ≡ None) }
         requires rows { InRows self.old }
         requires short { length name ≤ 8 }
-        ensures { (s : DeckSoFar) → Stands self.old s → place_of s name ≡ None → Judged (with_row_of s name (Kept kind)) self.new result }
+        ensures { (s : DeckSoFar) → IsDraftOf self.old s → place_of s name ≡ None → Judged (with_row_of s name (Kept kind)) self.new result }
     {
         if self.deck.rows() >= ROW_LIMIT {
             return Err(Refusal::Fault(LineFault::Limit(Counted::Rows)));

@@ -213,7 +213,8 @@ module _ (negative : Bool) (d places zeros : ℕ) (way : 0 < zeros → places �
       (subst (λ w. MatchOption o (2 ^ 127 ≤ w * m + n) (λ r. (r ≡ ratio (signed negative (w * m + n)) m) × (w * m + n < 2 ^ 127))) (number_is ∙ zeros_whole d places zeros way) h)
 
 -- few digits over ten for each of a few places, with no zeros after them
-pub short_fitting : (negative : Bool) (d places zeros : ℕ) (r : ℚ) → zeros ≡ 0 → d < 10 ^ 18 → places ≤ 18 → r ≡ ratio (signed negative d) (10 ^ places) → Fitting (ratio (signed negative (d * 10 ^ zeros)) (10 ^ places)) (Some r)
+pub short_fitting : (negative : Bool) (d places zeros : ℕ) (r : ℚ) → zeros ≡ 0 → d < 10 ^ 18 → places ≤ 18 → r ≡ ratio (signed negative d) (10 ^ places)
+    → Fitting (ratio (signed negative (d * 10 ^ zeros)) (10 ^ places)) (Some r)
 short_fitting negative d places zeros r none small few is =
     let same : d ≡ d * 10 ^ zeros = rw none (by_one d) in
     let below : 10 ^ places ≤ 10 ^ 18 = pow-le-pow_right (lit< tt) few in
@@ -247,7 +248,8 @@ value_down negative n count size =
     meets : (a b : ℕ) → a ≡ b → 1 * a ≡ 1 * b
     meets a b e = ap (λ k. 1 * k) e
 
-pub value_within : (negative : Bool) (n count size : ℕ) → size ≤ count → ratio (signed negative (n * 10 ^ 0)) (10 ^ (count - size)) ≡ ratio (signed negative n) (10 ^ count) *ℚ power_of_ten (signed false size)
+pub value_within : (negative : Bool) (n count size : ℕ) → size ≤ count → ratio (signed negative (n * 10 ^ 0)) (10 ^ (count - size)) ≡ ratio (signed negative n)
+    (10 ^ count) *ℚ power_of_ten (signed false size)
 value_within negative n count size h =
     shifted_value negative n count _ (10 ^ size) 1 (count - size) 0 (over_up size)
     (meets (10 ^ size * 10 ^ (count - size)) (10 ^ count) (sym (pow-add 10 size (count - size)) ∙ ap (λ k. 10 ^ k) (joins count size h)))
@@ -258,7 +260,8 @@ value_within negative n count size h =
     meets : (a b : ℕ) → a ≡ b → a ≡ 1 * (b * 1)
     meets a b e = omega arith
 
-pub value_past : (negative : Bool) (n count size : ℕ) → count < size → ratio (signed negative (n * 10 ^ (size - count))) (10 ^ 0) ≡ ratio (signed negative n) (10 ^ count) *ℚ power_of_ten (signed false size)
+pub value_past : (negative : Bool) (n count size : ℕ) → count < size → ratio (signed negative (n * 10 ^ (size - count))) (10 ^ 0) ≡ ratio (signed negative n)
+    (10 ^ count) *ℚ power_of_ten (signed false size)
 value_past negative n count size h =
     shifted_value negative n count _ (10 ^ size) 1 0 (size - count) (over_up size)
     (meets (10 ^ size) (10 ^ (size - count)) (10 ^ count) (ap (λ k. 10 ^ k) (joins count size h) ∙ pow-add 10 (size - count) count))

@@ -118,13 +118,15 @@ digit_at ds i place d t e =
     ∙ last_digit a c (at_all a c b all))
 
 -- a digit after the point, and one before it
-pub decimal_at : (a b : List ℕ) (place d : ℕ) → list_all is_digit a ≡ true → list_all is_digit b ≡ true → place < length b → get_or b (length b - 1 - place) d - 48 ≡ digits_value (a ++ b) / 10 ^ place % 10
+pub decimal_at : (a b : List ℕ) (place d : ℕ) → list_all is_digit a ≡ true → list_all is_digit b ≡ true → place < length b
+    → get_or b (length b - 1 - place) d - 48 ≡ digits_value (a ++ b) / 10 ^ place % 10
 decimal_at a b place d s t h =
     let long : length (a ++ b) ≡ length a + length b = length-append a b in
     ap (λ n. n - 48) (sym (get_or-append-add a b (length b - 1 - place) d))
     ∙ digit_at (a ++ b) (length a + (length b - 1 - place)) place d (all_both a b s t) (omega arith)
 
-pub whole_at : (a b : List ℕ) (place d : ℕ) → list_all is_digit a ≡ true → list_all is_digit b ≡ true → length b ≤ place → place - length b < length a → get_or a (length a - 1 - (place - length b)) d - 48 ≡ digits_value (a ++ b) / 10 ^ place % 10
+pub whole_at : (a b : List ℕ) (place d : ℕ) → list_all is_digit a ≡ true → list_all is_digit b ≡ true → length b ≤ place → place - length b < length a
+    → get_or a (length a - 1 - (place - length b)) d - 48 ≡ digits_value (a ++ b) / 10 ^ place % 10
 whole_at a b place d s t h k =
     let long : length (a ++ b) ≡ length a + length b = length-append a b in
     ap (λ n. n - 48) (sym (get_or-append a b d (length a - 1 - (place - length b)) (omega arith)))

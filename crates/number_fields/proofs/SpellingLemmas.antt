@@ -28,7 +28,8 @@ pub take_leading : (text : List ℕ) → take (length (leading_digits text)) tex
 take_leading [] = refl
 take_leading (c ∷ text) = rw (take_while-cons is_digit c text) (each (take_leading text) (is_digit c))
   where
-    each : take (length (take_while is_digit text)) text ≡ take_while is_digit text → (b : Bool) → take (length (cond b (c ∷ take_while is_digit text) [])) (c ∷ text) ≡ cond b (c ∷ take_while is_digit text) []
+    each : take (length (take_while is_digit text)) text ≡ take_while is_digit text → (b : Bool)
+        → take (length (cond b (c ∷ take_while is_digit text) [])) (c ∷ text) ≡ cond b (c ∷ take_while is_digit text) []
     each rest true = ap (λ t. c ∷ t) rest
     each rest false = refl
 
@@ -119,7 +120,8 @@ some_first n m e = let h : 0 < n = some_of n e in omega arith
 pub some_second : (n m : ℕ) → false ≡ (m == 0) → 0 < n + m
 some_second n m e = let h : 0 < m = some_of m e in omega arith
 
-module _ (text body whole decs rest : List ℕ) (body_is : body ≡ unsigned text) (whole_is : whole ≡ leading_digits body) (decs_is : decs ≡ decimals body) (rest_is : rest ≡ after_decimals body) (some : 0 < length whole + length decs) where
+module _ (text body whole decs rest : List ℕ) (body_is : body ≡ unsigned text) (whole_is : whole ≡ leading_digits body) (decs_is : decs ≡ decimals body)
+    (rest_is : rest ≡ after_decimals body) (some : 0 < length whole + length decs) where
   whole_here : whole ≡ leading_digits (unsigned text)
   whole_here = whole_is ∙ ap leading_digits body_is
 

@@ -27,7 +27,8 @@ filter-once : (p : ℕ) (xs : List ℕ) → IsDistinct eqb xs → has p xs ≡ t
 filter-once p [] once h = absurd (false≢true h)
 filter-once p (x ∷ xs) once h =
     ⊎_elim
-    (λ same. cond-true (eqb x p) _ _ (eq-eqb x p same) ∙ ap (λ ys. x ∷ ys) (filter-lacking p xs (subst (λ u. has u xs ≡ false) same (lacks_from_differ x xs (IsDistinct-head eqb x xs once)))) ∙ ap (λ u. u ∷ []) same)
+    (λ same. cond-true (eqb x p) _ _ (eq-eqb x p same) ∙ ap (λ ys. x ∷ ys) (filter-lacking p xs
+    (subst (λ u. has u xs ≡ false) same (lacks_from_differ x xs (IsDistinct-head eqb x xs once)))) ∙ ap (λ u. u ∷ []) same)
     (λ other.
     let later : has p xs ≡ true = ⊎_elim (λ here. absurd (other (sym (eqb-true p x here)))) (λ there. there) (or_cases (eqb p x) (has p xs) h) in
     cond-false (eqb x p) _ _ (ne_eqb x p other) ∙ filter-once p xs (IsDistinct-tail eqb x xs once) later)
@@ -36,7 +37,8 @@ filter-once p (x ∷ xs) once h =
 -- a number of an order comes to its end
 IsPermutation-with_last : (p : ℕ) (xs : List ℕ) → IsDistinct eqb xs → has p xs ≡ true → IsPermutation xs (order_with_last xs p)
 IsPermutation-with_last p xs once h =
-    subst (λ ys. IsPermutation xs (without p xs ++ ys)) (filter-once p xs once h) (IsPermutation-filter_both (λ x. not (eqb x p)) (λ x. eqb x p) (λ x. elim (eqb x p) as (λ b. b ≡ not (not b)) [ true ↦ refl | false ↦ refl ]) xs)
+    subst (λ ys. IsPermutation xs (without p xs ++ ys)) (filter-once p xs once h)
+    (IsPermutation-filter_both (λ x. not (eqb x p)) (λ x. eqb x p) (λ x. elim (eqb x p) as (λ b. b ≡ not (not b)) [ true ↦ refl | false ↦ refl ]) xs)
 
 -- what a closed path says of its end and of an item
 module _ (m : BothWays) (len : ℕ) (xs : List ℕ) (leads : Leads m len xs len) (below : All (λ x. x < len) xs) where
@@ -97,7 +99,8 @@ module _ (l : BothWays) (len : ℕ) (ok : IsOrdered l len) where
       let up : len ≤ len = omega arith in
       let below : len < len + 1 = omega arith in
       let (taken, shorter) = IsClosed-without_node l len (len + 1) ok.closed p len up below (has-order p hp) in
-      let gone = λ (h : ℕ) (up : len ≤ h) (hn : h < len + 1). lacks_from p (ring (without_node l p) len h) (λ held. both_ways _ (has-without_same p (ring l len h)) (subst (λ xs. has p xs ≡ true) (shorter h up hn) (has-from_Contains p _ held))) in
+      let gone = λ (h : ℕ) (up : len ≤ h) (hn : h < len + 1). lacks_from p (ring (without_node l p) len h)
+      (λ held. both_ways _ (has-without_same p (ring l len h)) (subst (λ xs. has p xs ≡ true) (shorter h up hn) (has-from_Contains p _ held))) in
       let (closed, longer) = IsClosed-with_node_before (without_node l p) len (len + 1) taken p hp (omega arith) gone len up below in
       let same : order_of (with_node_before (without_node l p) p len) len ≡ order_with_last (order_of l len) p =
       longer len up below ∙ cond-true (eqb len len) _ _ (eq-eqb len len refl) ∙ ap (λ xs. xs ++ p ∷ []) (shorter len up below) in
@@ -119,11 +122,18 @@ pub record Becomes (l : BothWays) (len m : ℕ) (order : List ℕ) : Type 0 wher
   pub whole : IsWhole (order_of l len)
   pub same_len : length (order_of l len) ≡ m
 
-pub Becomes-moved : (l l' : BothWays) (len p : ℕ) (order : List ℕ) → IsOrdered l len → order_of l len ≡ order → p < length order → l' ≡ with_node_before (without_node l p) p len → Becomes l' len (length order) (order_with_last order p)
+pub Becomes-moved : (l l' : BothWays) (len p : ℕ) (order : List ℕ) → IsOrdered l len → order_of l len ≡ order → p < length order
+    → l' ≡ with_node_before (without_node l p) p len → Becomes l' len (length order) (order_with_last order p)
 Becomes-moved l l' len p order ok is hp set' =
     let (ordered, same) = IsOrdered-moved l len ok p (position_below l len p order ok is hp) in
     let r : Becomes (with_node_before (without_node l p) p len) len (length order) (order_with_last order p) =
-    record { ordered = ordered; is = same ∙ ap (λ xs. order_with_last xs p) is; whole = IsWhole-order _ len ordered; same_len = length-order _ len ordered ∙ sym (length-order l len ok) ∙ ap length is } in
+    record {
+      ordered = ordered;
+      is = same ∙ ap (λ xs. order_with_last xs p) is;
+      whole = IsWhole-order _ len ordered;
+      same_len = length-order _ len ordered
+          ∙ sym (length-order l len ok) ∙ ap length is;
+    } in
     rw set' r
 
 -- positions come one by one into an empty order

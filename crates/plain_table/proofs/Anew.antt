@@ -29,13 +29,15 @@ first_single : (here : Place) (r : ℚ) (vs : List ℚ) → map (λ v. (here, v)
 first_single here r [] = refl
 first_single here r (v ∷ vs) = refl
 
-module _ (inst : Instance) (s : State) (costs : List ℚ) (rows : List (List ℚ)) (positions : length rows ≡ row_count inst) (basics : (p : ℕ) → p < row_count inst → at costs p ≡ cost inst s.phase (basic s p)) where
+module _ (inst : Instance) (s : State) (costs : List ℚ) (rows : List (List ℚ)) (positions : length rows ≡ row_count inst)
+    (basics : (p : ℕ) → p < row_count inst → at costs p ≡ cost inst s.phase (basic s p)) where
   column_same : (k j : ℕ) → placed (place k kind.Cost None (Some j)) (cost_work (cost inst s.phase j) costs rows j) ≡ cost_listing inst k s (λ p j. at (get_or rows p []) j) j
   column_same k j =
       first_single (place k kind.Cost None (Some j)) (cost inst s.phase j) (priced (cost inst s.phase j) (terms_from costs rows j 0 (length rows))).values
       ∙ ap (λ n. or_first (place k kind.Cost None (Some j)) (cost inst s.phase j) (placed (place k kind.Cost None (Some j)) (priced (cost inst s.phase j) (terms_from costs rows j 0 n)))) positions
       ∙ ap (or_first (place k kind.Cost None (Some j)) (cost inst s.phase j))
-      (taken_from (place k kind.Cost None (Some j)) (λ p. at costs p) (λ p. at (get_or rows p []) j) (λ p. cost inst s.phase (basic s p)) 0 (row_count inst) (cost inst s.phase j) (λ p from below. basics p (omega arith)))
+      (taken_from (place k kind.Cost None (Some j)) (λ p. at costs p) (λ p. at (get_or rows p []) j) (λ p. cost inst s.phase (basic s p)) 0 (row_count inst)
+      (cost inst s.phase j) (λ p from below. basics p (omega arith)))
 
   pub costs_lists : (k : ℕ) → costs_work_listing inst s.phase k costs rows ≡ costs_listing inst k s (λ p j. at (get_or rows p []) j)
   costs_lists k = same_parts _ _ (column_count inst) (λ j b. column_same k j)

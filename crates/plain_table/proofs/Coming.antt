@@ -1,5 +1,5 @@
 -- What comes next at a table that stands at a state.
-use Rattle.std.proofs.Common.{◌≡◌, ℕ, ◌<◌, ◌↔◌, IsTrue, IfOk, IfErr, IsErrAnd, Result, inl, inr, Bool, true, false, cond, not, List, [], ◌∷◌, ◌++◌, length, Option, Some, None, refl, sym, ◌∙◌, ap, subst, arith}
+use Rattle.std.proofs.Common.{◌≡◌, ℕ, ◌↔◌, IsTrue, IfErr, IsErrAnd, Result, Ok, Err, inl, inr, Bool, true, false, cond, not, List, [], ◌∷◌, ◌++◌, Option, Some, None, refl, sym, ◌∙◌, ap, subst}
 use Rattle.lp_model.specs.declared.Entry.{Entry}
 use Rattle.lp_model.specs.declared.Entry.TheVariants.{Flip, Swap}
 use Rattle.lp_model.specs.declared.Kind.TheVariants as kind
@@ -10,10 +10,9 @@ use Rattle.std.specs.Option.{option_map}
 use Rattle.rational.specs.Rational.{ℚ, zero_ℚ, one_ℚ, neg_ℚ, lt_ℚ, eq_ℚ, ◌-ℚ◌, ◌/ℚ◌, abs_ℚ}
 use Rattle.rational.specs.Sum.{at}
 use Rattle.rational.proofs.OrderLaws.{eq_ℚ-decides}
-use Rattle.rational.proofs.VectorLaws.{list_of}
-use Rattle.bland_ratio.specs.Leave.{Decides, direction_where}
+use Rattle.bland_ratio.specs.Leave.{direction_where}
 use Rattle.lp_run.specs.Instance.{Instance, bounds, row_count}
-use Rattle.lp_run.specs.Listing.{AllFit, first_unfit, move_listing, place, ratio_listing}
+use Rattle.lp_run.specs.Listing.{AllFit, Listed, first_unfit, move_listing, place, ratio_listing}
 use Rattle.lp_run.specs.Solution.{reduced}
 use Rattle.lp_run.specs.State.{State, basic}
 use Rattle.lp_run.specs.Step.{Enters, IsArtificial, IsFree, IsLimit, Leaves, Limit, Pivoting, direction, distance_at, limit_at, own_limit}
@@ -22,6 +21,7 @@ use Rattle.bland_laws.proofs.Searches.{Below, FirstOrNone, first_below, one_more
 use Rattle.bland_ratio.specs.declared.ratio_test.Leave.{Leave}
 use Rattle.bland_ratio.specs.declared.ratio_test.Leave.TheVariants as leave
 use Rattle.lp_run.proofs.Regularity.{column_solves}
+use Rattle.plain_table.specs.Inner.Lines.{Judges}
 use Rattle.plain_table.specs.Inner.Next.{DecidesAt, HasUnfitRatio, StandsOff, next_by}
 use Rattle.plain_table.specs.Next.{ComesNext, OverflowsNext, column, prices}
 use Rattle.plain_table.specs.Plain.{Plain, Stands, cell}
@@ -34,26 +34,10 @@ way_where d below e = by_test (lt_ℚ d zero_ℚ) ∙ ap (λ t. direction_where 
     by_test true = refl
     by_test false = refl
 
--- a column that was read is the table's
-pub read_is : (inst : Instance) (log : List Entry) (t : Plain) → Stands inst log t → (q : ℕ) (alpha : List ℚ) → length alpha ≡ length t.rows
-    → ((p : ℕ) → p < length t.rows → at alpha p ≡ cell t p q) → alpha ≡ column inst t q
-read_is inst log t stands q alpha long items =
-    list_of (λ p. cell t p q) (row_count inst) alpha (long ∙ stands.sized.rows) (λ p b. items p (omega (arith, stands.sized.rows)))
-
--- what the ratio test reads is what the table shows
-pub decides_at : (inst : Instance) (t : Plain) (q : ℕ) (cost : ℚ) (values alpha : List ℚ) (r : Result Leave Place) → cost ≡ at t.costs q → values ≡ t.values → alpha ≡ column inst t q
-    → IfOk r (Decides inst t.state q (direction cost) values alpha) → IfOk r (DecidesAt inst t q)
-decides_at inst t q cost values alpha r c v a h =
-    subst (λ cost. IfOk r (Decides inst t.state q (direction cost) t.values (column inst t q))) c
-    (subst (λ values. IfOk r (Decides inst t.state q (direction cost) values (column inst t q))) v
-    (subst (λ alpha. IfOk r (Decides inst t.state q (direction cost) values alpha)) a h))
-
-pub unfit_at : (w : ℕ) (inst : Instance) (t : Plain) (q : ℕ) (cost : ℚ) (values alpha : List ℚ) (r : Result Leave Place) → cost ≡ at t.costs q → values ≡ t.values → alpha ≡ column inst t q
-    → IfErr r (λ here. first_unfit w (ratio_listing inst t.number t.state q (direction cost) values alpha) ≡ Some here) → IfErr r (HasUnfitRatio w inst t q)
-unfit_at w inst t q cost values alpha r c v a h =
-    subst (λ cost. IfErr r (λ here. first_unfit w (ratio_listing inst t.number t.state q (direction cost) t.values (column inst t q)) ≡ Some here)) c
-    (subst (λ values. IfErr r (λ here. first_unfit w (ratio_listing inst t.number t.state q (direction cost) values (column inst t q)) ≡ Some here)) v
-    (subst (λ alpha. IfErr r (λ here. first_unfit w (ratio_listing inst t.number t.state q (direction cost) values alpha) ≡ Some here)) a h))
+-- what is refused is the first that does not fit
+pub judged_unfit : {A : Type 0} (w : ℕ) (vs : List Listed) (r : Result A Place) → Judges w vs r → IfErr r (λ here. first_unfit w vs ≡ Some here)
+judged_unfit w vs (Ok a) h = tt
+judged_unfit w vs (Err here) h = h
 
 -- a refusal that is handed on has the same cause
 pub handed_on : {A E : Type 0} {e : E} (r : Result A E) (P : E → Type 0) → IsErrAnd r (λ f. f ≡ e) → P e → IfErr r P

@@ -1,5 +1,6 @@
 pub mod Anew
 pub mod Eliminations
+pub mod Halves
 pub mod Lines
 pub mod Makings
 pub mod Memories
@@ -15,6 +16,7 @@ pub mod StartSolves
 pub mod StartValues
 pub mod Stepping
 pub mod Steps
+pub mod Supports
 pub mod Swaps
 pub mod Coming
 pub mod Tables

@@ -28,6 +28,7 @@ pub record HasMemory (inst : Instance) (a : Inside) : Type 0 where
   pub spare_values : length a.spare_values.items ≡ row_count inst
   pub spare_costs : length a.spare_costs.items ≡ column_count inst
   pub pivot_row : length a.pivot_row.items ≡ column_count inst
+  pub support : length a.support.items ≡ column_count inst
   pub alpha : length a.alpha.items ≡ row_count inst
 
 module _ (inst : Instance) (a : Inside) (m : HasMemory inst a) where
@@ -49,6 +50,7 @@ module _ (inst : Instance) (a : Inside) (m : HasMemory inst a) where
     spare_values = m.spare_values ∙ sym m.rows;
     spare_costs = m.spare_costs ∙ sym m.costs;
     pivot_row = m.pivot_row ∙ sym m.costs;
+    support = m.support ∙ sym m.costs;
     alpha = m.alpha ∙ sym m.rows;
     few_rows = subst (λ k. k < 2 ^ 32) (sym m.rows) few_rows;
     few_columns = subst (λ k. k < 2 ^ 32) (sym m.costs) few_columns;
@@ -68,6 +70,7 @@ memory_of inst a h s = record {
   spare_values = h.spare_values ∙ s.sized.rows;
   spare_costs = h.spare_costs ∙ s.sized.costs;
   pivot_row = h.pivot_row ∙ s.sized.costs;
+  support = h.support ∙ s.sized.costs;
   alpha = h.alpha ∙ s.sized.rows;
 }
 

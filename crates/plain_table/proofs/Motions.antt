@@ -12,7 +12,7 @@ use Rattle.bland_ratio.specs.declared.ratio_test.RatioUnfit.{RatioUnfit}
 use Rattle.lp_run.specs.Instance.{Instance, row_count}
 use Rattle.lp_run.specs.Listing.{AllFit, first_unfit, ratio_listing}
 use Rattle.lp_run.specs.State.{State, basic}
-use Rattle.lp_run.specs.Step.{IsFree, Leaves, Limit, direction}
+use Rattle.lp_run.specs.Step.{IsFree, Limit, direction}
 use Rattle.plain_table.specs.Inner.Steps.{IsDecided, IsMotion, column_of, ratio_by, test_listing}
 use Rattle.plain_table.proofs.Lines.{item_read}
 
@@ -21,28 +21,16 @@ pub column_read : (inst : Instance) (rows : List (List ℚ)) (q : ℕ) (alpha : 
     → ((p : ℕ) → p < length rows → at alpha p ≡ at (get_or rows p []) q) → alpha ≡ column_of inst rows q
 column_read inst rows q alpha long positions read = list_of (λ p. at (get_or rows p []) q) (row_count inst) alpha long (λ p b. read p (subst (λ n. p < n) (sym positions) b))
 
+turns_where : (costs : List ℚ) (q : ℕ) (cost : ℚ) (down : Bool) → q < length costs → cost ≡ get_or costs q cost → direction cost ≡ direction_where down → direction (at costs q) ≡ direction_where down
+turns_where costs q cost down b read falls = ap direction (sym (item_read costs q cost zero_ℚ b read)) ∙ falls
+
 module _ (inst : Instance) (s : State) (rows : List (List ℚ)) (values costs : List ℚ) (q : ℕ) (alpha : List ℚ) (is : alpha ≡ column_of inst rows q)
     (down : Bool) (cost : ℚ) (b : q < length costs) (read : cost ≡ get_or costs q cost) (falls : direction cost ≡ direction_where down) where
   turns : direction (at costs q) ≡ direction_where down
-  turns = ap direction (sym (item_read costs q cost zero_ℚ b read)) ∙ falls
+  turns = turns_where costs q cost down b read falls
 
-  decided_so : (limit : Limit) → IsDecided inst s rows values costs q limit → Leaves inst s q (direction_where down) values alpha limit
-  decided_so limit h = subst (λ α. Leaves inst s q (direction_where down) values α limit) (sym is) (subst (λ t. Leaves inst s q t values (column_of inst rows q) limit) turns h)
-
-  decided : (limit : Limit) → Leaves inst s q (direction_where down) values alpha limit → IsDecided inst s rows values costs q limit
-  decided limit h = subst (λ t. Leaves inst s q t values (column_of inst rows q) limit) (sym turns) (subst (λ α. Leaves inst s q (direction_where down) values α limit) is h)
-
-  pub not_free : (limit : Limit) → IsDecided inst s rows values costs q limit → (l : Leave) → Decides inst s q (direction_where down) values alpha l → l ≢ leave.Free
-  not_free limit h l decides e =
-      let free : IsFree inst s q (direction_where down) values alpha = subst (λ l. Decides inst s q (direction_where down) values alpha l) e decides in
-      free limit (decided_so limit h).is_limit
-
-  pub motion_is : (limit : Limit) → IsDecided inst s rows values costs q limit → (l : Leave) → Decides inst s q (direction_where down) values alpha l → (ratio : ℚ) → ratio ≡ ratio_by l
-      → IsMotion inst s rows values costs q (record { down = down; ratio = ratio })
-  motion_is limit h (leave.Flip r) decides ratio e = (turns, (record { ratio = r; column = q; entry = Flip q }, decided (record { ratio = r; column = q; entry = Flip q }) decides, sym e))
-  motion_is limit h (leave.Out p end r) decides ratio e =
-      (turns, (record { ratio = r; column = basic s p; entry = Swap q p end }, decided (record { ratio = r; column = basic s p; entry = Swap q p end }) decides, sym e))
-  motion_is limit h leave.Free decides ratio e = absurd (not_free limit h leave.Free decides refl)
+  pub decides_so : (l : Leave) → Decides inst s q (direction_where down) values alpha l → Decides inst s q (direction (at costs q)) values (column_of inst rows q) l
+  decides_so l h = subst (λ t. Decides inst s q t values (column_of inst rows q) l) (sym turns) (subst (λ α. Decides inst s q (direction_where down) values α l) is h)
 
   pub test_fits : (w k : ℕ) → RatiosFit w inst s q (direction_where down) values alpha → AllFit w (test_listing inst k s rows values costs q)
   test_fits w k fits =
@@ -53,3 +41,19 @@ module _ (inst : Instance) (s : State) (rows : List (List ℚ)) (values costs : 
   test_unfit w k refusal here there unfit =
       subst (λ t. first_unfit w (ratio_listing inst k s q t values (column_of inst rows q)) ≡ Some here) (sym turns)
       (subst (λ α. first_unfit w (ratio_listing inst k s q (direction_where down) values α) ≡ Some here) is (unfit k ∙ ap Some (sym there)))
+
+-- ── a step that has a limit ──
+
+module _ (inst : Instance) (s : State) (rows : List (List ℚ)) (values costs : List ℚ) (q : ℕ) (limit : Limit) (limited : IsDecided inst s rows values costs q limit) where
+  pub not_free : (l : Leave) → Decides inst s q (direction (at costs q)) values (column_of inst rows q) l → l ≢ leave.Free
+  not_free l decides e =
+      let free : IsFree inst s q (direction (at costs q)) values (column_of inst rows q) = subst (λ l. Decides inst s q (direction (at costs q)) values (column_of inst rows q) l) e decides in
+      free limit limited.is_limit
+
+  pub motion_is : (l : Leave) → Decides inst s q (direction (at costs q)) values (column_of inst rows q) l → (cost : ℚ) (down : Bool) → q < length costs → cost ≡ get_or costs q cost
+      → direction cost ≡ direction_where down → (ratio : ℚ) → ratio ≡ ratio_by l → IsMotion inst s rows values costs q (record { down = down; ratio = ratio })
+  motion_is (leave.Flip r) decides cost down b read falls ratio e =
+      (turns_where costs q cost down b read falls, (record { ratio = r; column = q; entry = Flip q }, decides, sym e))
+  motion_is (leave.Out p end r) decides cost down b read falls ratio e =
+      (turns_where costs q cost down b read falls, (record { ratio = r; column = basic s p; entry = Swap q p end }, decides, sym e))
+  motion_is leave.Free decides cost down b read falls ratio e = absurd (not_free leave.Free decides refl)

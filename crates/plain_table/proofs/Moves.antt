@@ -47,9 +47,11 @@ module _ (own down : Bool) (rest value element ratio : ℚ) where
 
 -- ── position by position ──
 
-module _ (w u : ℕ) (same : u ≡ w) (k p : ℕ) (down : Bool) (rest ratio : ℚ) (values column : List ℚ) (i : ℕ) (x y : ℚ) (b : i < length values) (b' : i < length column) (left : x ≡ get_or values i x) (right : y ≡ get_or column i y) where
+module _ (w u : ℕ) (same : u ≡ w) (k p : ℕ) (down : Bool) (rest ratio : ℚ) (values column : List ℚ) (i : ℕ) (x y : ℚ) (b : i < length values)
+    (b' : i < length column) (left : x ≡ get_or values i x) (right : y ≡ get_or column i y) where
   there : value_work (eqb i p) down rest (at values i) (at column i) ratio ≡ value_work (eqb i p) down rest x y ratio
-  there = sym (ap (λ x. value_work (eqb i p) down rest x y ratio) (item_read values i x zero_ℚ b left) ∙ ap (λ y. value_work (eqb i p) down rest (at values i) y ratio) (item_read column i y zero_ℚ b' right))
+  there = sym (ap (λ x. value_work (eqb i p) down rest x y ratio) (item_read values i x zero_ℚ b left)
+      ∙ ap (λ y. value_work (eqb i p) down rest (at values i) y ratio) (item_read column i y zero_ℚ b' right))
 
   settled : (o : Option ℚ) → settle u (value_work (eqb i p) down rest x y ratio) ≡ o → settle w (value_work (eqb i p) down rest (at values i) (at column i) ratio) ≡ o
   settled o e = settle-same u w (value_work (eqb i p) down rest (at values i) (at column i) ratio) (value_work (eqb i p) down rest x y ratio) o (sym same) there e

@@ -41,7 +41,8 @@ module _ (inst : Instance) (log : List Entry) (s : State) (rows : List (List ℚ
   listed_by t alpha ratio entry =
       ratio_listing inst (length log) s q t values alpha ++ move_listing inst (length log) s table values alpha (reduced inst s (prices_shown inst (at costs))) q t ratio entry
 
-  pub swap_step_lists : (down : Bool) (other : Limit) (alpha : List ℚ) → direction (at costs q) ≡ turned_by down → alpha ≡ table_column inst table q → Leaves inst s q (turned_by down) values alpha other
+  pub swap_step_lists : (down : Bool) (other : Limit) (alpha : List ℚ) → direction (at costs q) ≡ turned_by down → alpha ≡ table_column inst table q
+      → Leaves inst s q (turned_by down) values alpha other
       → StepLists inst (length log) s
       (ratio_listing inst (length log) s q (turned_by down) values alpha
       ++ swap_listing (record { number = length log; position = p; column = q; down = down; rest = rest inst s q; ratio = other.ratio }) alpha rows values costs)
@@ -86,7 +87,8 @@ module _ (inst : Instance) (log : List Entry) (s : State) (table : ℕ → ℕ �
   flip_listed_by t alpha ratio entry =
       ratio_listing inst (length log) s q t values alpha ++ move_listing inst (length log) s table values alpha (reduced inst s (prices_shown inst d)) q t ratio entry
 
-  pub flip_step_lists : (down : Bool) (other : Limit) (alpha : List ℚ) (p : ℕ) (v : ℚ) → row_count inst ≤ p → direction (d q) ≡ turned_by down → alpha ≡ table_column inst table q → Leaves inst s q (turned_by down) values alpha other
+  pub flip_step_lists : (down : Bool) (other : Limit) (alpha : List ℚ) (p : ℕ) (v : ℚ) → row_count inst ≤ p → direction (d q) ≡ turned_by down
+      → alpha ≡ table_column inst table q → Leaves inst s q (turned_by down) values alpha other
       → StepLists inst (length log) s (ratio_listing inst (length log) s q (turned_by down) values alpha ++ values_listing (length log) p down v other.ratio values alpha)
   flip_step_lists down other alpha p v past turns is leaves =
       inl (subst (MoveLists inst (length log) s) same (move_lists inst log s table values d stands q flip.y flip.β flip.α flip.pivoting flip.limit flip.leaves))

@@ -43,7 +43,7 @@ module _ (w : ℕ) (v : Pivot) (alpha : List ℚ) (rows : List (List ℚ)) (valu
   line_part = line_listing v rows
 
   abbrev rows_part : List ℚ → List Listed
-  rows_part by = rows_listing v.number v.position v.column by rows
+  rows_part by = rows_listing v.number v.position 0 v.column by rows
 
   abbrev values_part : List Listed
   values_part = values_listing v.number v.position v.down v.rest v.ratio values alpha
@@ -93,12 +93,12 @@ module _ (w : ℕ) (v : Pivot) (alpha : List ℚ) (rows : List (List ℚ)) (valu
           (subst (λ h. Judges u'' (less_listing h costs factor by) r) a h))))
 
 -- what is worked
-pub are_pivoted : (v : Pivot) (alpha : List ℚ) (rows : List (List ℚ)) (values costs : List ℚ) (out_rows : List (List ℚ)) (out_values out_costs by : List ℚ) (factor : ℚ)
+pub are_pivoted : (v : Pivot) (alpha : List ℚ) (rows : List (List ℚ)) (values costs : List ℚ) (columns : List ℕ) (out_rows : List (List ℚ)) (out_values out_costs by : List ℚ) (factor : ℚ)
     → by ≡ pivot_line v rows → factor ≡ at costs v.column
-    → AreEliminated v.position v.column by rows out_rows → AreMoved v.position v.down v.rest v.ratio values alpha out_values → AreLess costs factor by out_costs
-    → ArePivoted v alpha rows values costs out_rows out_values out_costs
-are_pivoted v alpha rows values costs out_rows out_values out_costs by factor is b eliminated moved less = record {
-  rows_after = subst (λ by. AreEliminated v.position v.column by rows out_rows) is eliminated;
+    → AreEliminated v.position 0 v.column by columns rows out_rows → AreMoved v.position v.down v.rest v.ratio values alpha out_values → AreLess costs factor by out_costs
+    → ArePivoted v alpha rows values costs columns out_rows out_values out_costs
+are_pivoted v alpha rows values costs columns out_rows out_values out_costs by factor is b eliminated moved less = record {
+  rows_after = subst (λ by. AreEliminated v.position 0 v.column by columns rows out_rows) is eliminated;
   values_after = moved;
   costs_after = subst (λ by. AreLess costs (at costs v.column) by out_costs) is (subst (λ f. AreLess costs f by out_costs) b less);
 }

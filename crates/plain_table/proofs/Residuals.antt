@@ -62,7 +62,8 @@ module _ (w : ℕ) where
       by_test true e = ap (λ t. cond t (Some c.answer) None) e
       by_test false e = absurd (none_not_some here (first_unfit w (placed here c)) (unfit-placed w here c (ap (λ t. cond t (Some c.answer) None) e)) fits)
 
-  taken_settles : (here : ℕ → Place) (f g : ℕ → ℚ) (a n : ℕ) (r : ℚ) → AllFit w (taken r (map (λ j. (here j, (f j, g j))) (range_with_len a n))) → settle w (priced r (factors_from f g a n)) ≡ Some (priced r (factors_from f g a n)).answer
+  taken_settles : (here : ℕ → Place) (f g : ℕ → ℚ) (a n : ℕ) (r : ℚ) → AllFit w (taken r (map (λ j. (here j, (f j, g j))) (range_with_len a n)))
+      → settle w (priced r (factors_from f g a n)) ≡ Some (priced r (factors_from f g a n)).answer
   unfolding bind done
   taken_settles here f g a zero r fits = settle-done w r
   taken_settles here f g a (suc n) r fits =

@@ -23,8 +23,8 @@ use Rattle.table_laws.specs.Stands.{prices_shown}
 use Rattle.table_laws.proofs.Stepped.{swapped}
 use Rattle.plain_table.specs.declared.motion.Motion.{Motion}
 use Rattle.plain_table.specs.declared.pivot.Pivot.{Pivot}
-use Rattle.plain_table.specs.Inner.Pivots.{ArePivoted, swap_listing}
-use Rattle.plain_table.specs.Inner.Rows.{ArePicked, AreWide}
+use Rattle.plain_table.specs.Inner.Pivots.{ArePivoted, pivot_line, swap_listing}
+use Rattle.plain_table.specs.Inner.Rows.{AreTaken, AreWide}
 use Rattle.plain_table.specs.Answers.{JudgesStep}
 use Rattle.plain_table.specs.Plain.{Plain, Stands, cell}
 use Rattle.plain_table.specs.Inner.Costs.{AreCosts, costs_work_listing}
@@ -32,6 +32,7 @@ use Rattle.plain_table.specs.Inner.Lines.{Judges}
 use Rattle.plain_table.specs.Inner.Steps.{IsDecided, IsMotion, column_of, table_of, test_listing}
 use Rattle.plain_table.specs.Inner.Values.{AreMoved, moved, value_work, values_listing}
 use Rattle.plain_table.proofs.Anew.{costs_are}
+use Rattle.plain_table.proofs.Eliminations.{taken_from_first}
 use Rattle.plain_table.proofs.Moving.{flip_step_lists, swap_step_lists, turn_step_lists}
 use Rattle.plain_table.proofs.Parts.{judged_first, judged_next}
 use Rattle.plain_table.proofs.Stepping.{flip_stands, found_limit, move_lists, shown_leaves, swap_stands, turn_stands}
@@ -188,10 +189,11 @@ module _ (inst : Instance) (t : Plain) (log : List Entry) (stands : Stands inst 
           listed : ℕ → ℚ → ℚ → List Listed
           listed k value ratio = tested k ++ swap_listing (pivot k value ratio) alpha t.rows t.values t.costs
 
-      pub swap_after : IsWellFormed inst → (out new : List (List ℚ)) (values costs : List ℚ) → length values ≡ length t.values → length costs ≡ length t.costs → length new ≡ length t.rows
-          → AreWide (length t.costs) new → ArePicked p q t.rows out new → ArePivoted (pivot t.number v m.ratio) alpha t.rows t.values t.costs out values costs
+      pub swap_after : IsWellFormed inst → (line : List ℚ) (columns : List ℕ) (out new : List (List ℚ)) (values costs : List ℚ)
+          → line ≡ pivot_line (pivot t.number v m.ratio) t.rows → length values ≡ length t.values → length costs ≡ length t.costs → length new ≡ length t.rows
+          → AreWide (length t.costs) new → AreTaken p 0 q line columns t.rows out new → ArePivoted (pivot t.number v m.ratio) alpha t.rows t.values t.costs columns out values costs
           → Stands inst (log ++ Swap q p end ∷ []) (table_of (after t.state (Swap q p end)) new values costs (t.number + 1))
-      swap_after sound out new values costs each all many broad picks pivots = record {
+      swap_after sound line columns out new values costs line_is each all many broad taken pivots = record {
         table = swap_stands inst sound log t.state (cell t) t.values (at t.costs) stands.table q p end next m.down found values (λ i j. at (get_or new i []) j)
             (at costs) motion.0 motion.1.1.is_limit swaps
             (each ∙ stands.sized.values) moved_there entries_there
@@ -218,7 +220,9 @@ module _ (inst : Instance) (t : Plain) (log : List Entry) (stands : Stands inst 
               let below : k < length t.rows = subst (λ n. k < n) (sym stands.sized.rows) b in
               entries_after inst t.state t.number q p m.down m.ratio t.rows t.values t.costs alpha stands.sized.rows wide stands.sized.values stands.sized.costs within (at t.costs)
               (λ j b. refl) swap_column
-              (get_or new k []) k j c (λ j inside. ap (λ (row : List ℚ). at row j) (picks k below) ∙ pivots.rows_after k below j inside)
+              (get_or new k []) k j c
+              (λ j inside. taken_from_first p q (pivot_line (pivot t.number v m.ratio) t.rows) columns t.rows out new pivots.rows_after
+              (subst (λ by. AreTaken p 0 q by columns t.rows out new) line_is taken) k below j inside)
 
   -- ── a turn ──
 

@@ -17,6 +17,7 @@ use Rattle.plain_table.specs.Inner.Lines.{less_listing, quotients_listing}
 use Rattle.plain_table.specs.Inner.Pivots.{quotients, swap_listing}
 use Rattle.plain_table.specs.Inner.Rows.{AreWide, row_listing, rows_listing}
 use Rattle.plain_table.specs.Inner.Values.{entered_by, moved, value_work, values_listing}
+use Rattle.plain_table.proofs.Eliminations.{rows_from_first}
 use Rattle.plain_table.proofs.Parts.{same_parts}
 
 -- -1 where a column falls, else 1
@@ -57,15 +58,17 @@ module _ (inst : Instance) (s : State) (k q p : ℕ) (down : Bool) (ratio : ℚ)
       ap (λ n. flat_map (λ j. placed (place k kind.Entry (Some i) (Some j)) (less (at (get_or rows i []) j) (at (get_or rows i []) q) (at by j))) (upto n)) (wide i b)
       ∙ same_parts _ _ (column_count inst) (λ j in_range. ap (λ y. placed (place k kind.Entry (Some i) (Some j)) (less (at (get_or rows i []) j) (at (get_or rows i []) q) y)) (by_row j in_range))
 
-  rows_same : quotients_listing (place k kind.Entry (Some p) None) (get_or rows p []) (at (get_or rows p []) q) ++ rows_listing k p q by rows ≡ pivot_listing inst k table p q
+  rows_same : quotients_listing (place k kind.Entry (Some p) None) (get_or rows p []) (at (get_or rows p []) q) ++ rows_listing k p 0 q by rows ≡ pivot_listing inst k table p q
   rows_same =
       ap₂ (λ xs ys. xs ++ ys)
       (ap (λ n. map (λ j. (place k kind.Entry (Some p) (Some j), at (get_or rows p []) j /ℚ at (get_or rows p []) q)) (upto n)) (wide p below))
-      (ap (λ n. flat_map (λ i. row_listing k (eqb i p) i q by (get_or rows i [])) (upto n)) positions
+      (rows_from_first k p q by rows
+      ∙ ap (λ n. flat_map (λ i. row_listing k (eqb i p) i q by (get_or rows i [])) (upto n)) positions
       ∙ same_parts _ _ (row_count inst) (λ i b. ap (λ xs. cond (eqb i p || eq_ℚ (at (get_or rows i []) q) zero_ℚ) [] xs) (line_same i (subst (λ n. i < n) (sym positions) b))))
 
   values_same : values_listing k p down (rest inst s q) ratio values alpha
-      ≡ flat_map (λ i. cond (eqb i p) ((place k kind.Value (Some p) None, entered (turned_by down) (rest inst s q) ratio) ∷ []) (value_listing k (turned_by down) ratio values alpha i)) (upto (row_count inst))
+      ≡ flat_map (λ i. cond (eqb i p) ((place k kind.Value (Some p) None, entered (turned_by down) (rest inst s q) ratio) ∷ [])
+      (value_listing k (turned_by down) ratio values alpha i)) (upto (row_count inst))
   unfolding work
   values_same =
       ap (λ n. flat_map (λ i. placed (place k kind.Value (Some i) None) (value_work (eqb i p) down (rest inst s q) (at values i) (at alpha i) ratio)) (upto n)) each
@@ -77,7 +80,8 @@ module _ (inst : Instance) (s : State) (k q p : ℕ) (down : Bool) (ratio : ℚ)
       by_test i true e = ap₂ (λ i v. (place k kind.Value (Some i) None, v) ∷ []) (eqb-true i p e) (entered_same down (rest inst s q) ratio)
       by_test i false e = value_same k i down ratio (at values i) (at alpha i)
 
-  costs_same : less_listing (place k kind.Cost None None) costs (at costs q) by ≡ flat_map (λ j. placed (place k kind.Cost None (Some j)) (less (d j) (d q) (pivot_row table p q j))) (upto (column_count inst))
+  costs_same : less_listing (place k kind.Cost None None) costs (at costs q) by ≡ flat_map
+      (λ j. placed (place k kind.Cost None (Some j)) (less (d j) (d q) (pivot_row table p q j))) (upto (column_count inst))
   costs_same =
       ap (λ n. flat_map (λ j. placed (place k kind.Cost None (Some j)) (less (at costs j) (at costs q) (at by j))) (upto n)) all
       ∙ same_parts _ _ (column_count inst) (λ j b. ap (λ y. placed (place k kind.Cost None (Some j)) (less (at costs j) (at costs q) y)) (by_row j b)
@@ -88,7 +92,8 @@ module _ (inst : Instance) (s : State) (k q p : ℕ) (down : Bool) (ratio : ℚ)
   swap_lists end = ap₂ (λ xs ys. xs ++ ys) (ap₂ (λ xs ys. xs ++ ys) rows_same values_same) costs_same
 
   -- the rows that are taken over are those of the table after the pivot
-  pub entries_after : (new : List ℚ) (i j : ℕ) → j < column_count inst → ((j : ℕ) → j < length by → at new j ≡ cond (eqb i p) (at by j) (at (get_or rows i []) j -ℚ at (get_or rows i []) q *ℚ at by j)) → at new j ≡ pivoted table p q i j
+  pub entries_after : (new : List ℚ) (i j : ℕ) → j < column_count inst → ((j : ℕ) → j < length by
+      → at new j ≡ cond (eqb i p) (at by j) (at (get_or rows i []) j -ℚ at (get_or rows i []) q *ℚ at by j)) → at new j ≡ pivoted table p q i j
   entries_after new i j b eliminated =
       eliminated j (subst (λ n. j < n) (sym (length-map (get_or rows p []) (λ x. x /ℚ at (get_or rows p []) q) ∙ wide p below)) b)
       ∙ ap (λ y. cond (eqb i p) y (at (get_or rows i []) j -ℚ at (get_or rows i []) q *ℚ y)) (by_row j b)

@@ -1,5 +1,5 @@
 -- A step in the table's own parts: the table that it is worked from, its sizes after it, and an answer that is handed on.
-use Rattle.std.proofs.Common.{◌≡◌, ℕ, ◌<◌, List, length, set, Result, Err, IsErrAnd, sym, ◌∙◌, ap, subst, length-set, get_or-set_other, get_or-set_same}
+use Rattle.std.proofs.Common.{◌≡◌, ℕ, ◌<◌, List, length, set, Result, Ok, Err, IfOk, OnOk, IsErrAnd, sym, ◌∙◌, ap, subst, length-set, get_or-set_other, get_or-set_same}
 use Rattle.lp_model.specs.declared.Entry.TheVariants.{Flip, Swap}
 use Rattle.lp_model.specs.declared.Place.{Place}
 use Rattle.lp_model.specs.declared.Side.{Side}
@@ -25,6 +25,11 @@ pub step_judged_on : {A : Type 0} (w : ℕ) (inst : Instance) (t t' : Plain) (he
     → IsErrAnd r (λ first. first ≡ here) → JudgesStep w inst t' r
 step_judged_on w inst t t' here r same h refused =
     subst (λ t. JudgesStep w inst t r) same (h.0, h.1, judged_on w w h.0 here r (λ i. w) h.2 refused)
+
+-- what an answer gives by two clauses
+pub if_ok_both : {A : Type 0} (r : Result A Place) (L : Type 0) (P Q : A → Type 0) → OnOk r L → IfOk r P → ((a : A) → L → P a → Q a) → IfOk r Q
+if_ok_both (Ok a) L P Q l p both = both a l p
+if_ok_both (Err here) L P Q l p both = tt
 
 -- ── the sizes after a step ──
 

@@ -61,10 +61,7 @@ fn less_basic_costs<A: Arith>(
 {
     let mut rest = own;
     for p in 0..rows.len() {
-        match less_product(rest, basic_costs[p], rows[p].get(j), arith) {
-            Ok(left) => rest = left,
-            Err(unfit) => return Err(unfit),
-        }
+        rest = less_product(rest, basic_costs[p], rows[p].get(j), arith)?;
     }
     Ok(rest)
 }

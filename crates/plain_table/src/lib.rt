@@ -28,10 +28,12 @@ mod rows;
 mod start;
 mod start_values;
 mod step;
+mod support;
 mod swap;
 mod table;
 mod values;
 
 pub use faults::TableFault;
 pub use next::{End, Next, falls};
+pub use swap::rest_of;
 pub use table::Table;

@@ -1,8 +1,8 @@
 //! Lines of numbers by column, worked one after another: a quotient or a difference in each.
-ghost use Rattle.std.specs.Prelude.{◌≡◌, ◌≢◌, ◌<◌, ◌^◌, length, OnOk};
+ghost use Rattle.std.specs.Prelude.{◌≡◌, ◌≢◌, ◌<◌, ◌≤◌, ◌^◌, ℕ, get_or, length, OnOk};
 ghost use Rattle.rational.specs.Rational.{zero_ℚ};
 ghost use Rattle.exact_frac.specs.Count.{unfit_after};
-ghost use Rattle.plain_table.specs.Inner.Lines.{in_column as there, AreDivided, AreLess, Judges, less_listing, quotients_listing};
+ghost use Rattle.plain_table.specs.Inner.Lines.{in_column as there, AreDivided, AreLess, AreLessPacked, AreRising, IsSupport, IsUnpacked, Judges, less_listing, quotients_listing};
 
 use exact_frac::{Arith, Frac};
 use lp_model::Place;
@@ -68,4 +68,45 @@ pub fn subtract_line<A: Arith>(
         }
     }
     Ok(())
+}
+
+/// Takes a multiple of one line from another in the columns where that one is not 0. The numbers come one after another.
+pub fn subtract_packed<A: Arith>(
+    here: Place,
+    line: &[Frac],
+    factor: Frac,
+    by: &[Frac],
+    columns: &[u32],
+    arith: &mut A,
+    out: &mut [Frac],
+) -> Result<(), Place>
+    requires by { length by.now ≡ length line.now }
+    requires support { IsSupport by.now columns.now }
+    requires count { length columns.now ≤ length out.old }
+    requires few { length line.now < 2 ^ 32 }
+    ensures answer { Judges (A.width arith.old) (less_listing here line.now factor by.now) result }
+    ensures less { OnOk result (AreLessPacked line.now factor by.now columns.now out.new) }
+    ensures width { A.width arith.new ≡ A.width arith.old }
+    ensures unfit { A.unfit_count arith.new ≡ unfit_after (A.unfit_count arith.old) result }
+{
+    for k in 0..columns.len() {
+        let j = columns[k] as usize;
+        match less_product(line[j], factor, by[j], arith) {
+            Ok(rest) => out[k] = rest,
+            Err(_) => return Err(in_column(here, j)),
+        }
+    }
+    Ok(())
+}
+
+/// Writes numbers that come one after another into their columns, which rise.
+pub fn unpack(columns: &[u32], packed: &[Frac], line: &mut [Frac])
+    requires rising { AreRising columns.now }
+    requires within { (k : ℕ) → k < length columns.now → get_or columns.now k 0 < length line.old }
+    requires count { length columns.now ≤ length packed.now }
+    ensures { IsUnpacked columns.now packed.now line.old line.new }
+{
+    for k in 0..columns.len() {
+        line[columns[k] as usize] = packed[k];
+    }
 }

@@ -20,6 +20,7 @@ use instance_model::Instance;
 use lp_model::Place;
 use no_memory::Memory;
 use std::alloc::{AllocError, Global};
+use std::thread::Threads;
 
 // So many zeros.
 #[tactic(auto, using(exact_frac::specs::Constants::constants))]
@@ -71,7 +72,8 @@ impl Table {
     ///
     /// `Overflow` with the place of the first value that does not fit the width, where there is one, of all that is
     /// worked on the way. `Memory` for want of memory.
-    pub fn replay<A: Arith>(
+    pub fn replay<R: Threads + Sync, A: Arith>(
+        rt: &R,
         alloc: Global,
         inst: &Instance,
         log: &Log,
@@ -86,7 +88,7 @@ impl Table {
         let mut table = Table::start(alloc, inst, arith)?;
         let entries = log.entries();
         for k in 0..entries.len() {
-            match table.step(inst, entries[k], arith) {
+            match table.step(rt, inst, entries[k], arith) {
                 Ok(()) => {}
                 Err(place) => return Err(TableFault::Overflow(place)),
             }
@@ -111,6 +113,7 @@ impl Table {
             spare_values: zeros(alloc, rows)?,
             spare_costs: zeros(alloc, columns)?,
             pivot_row: zeros(alloc, columns)?,
+            support: vec![in alloc; 0; columns]?,
             alpha: zeros(alloc, rows)?,
         })
     }

@@ -1,17 +1,17 @@
 //! What comes next at a table.
-ghost use Rattle.std.specs.Prelude.{◌≡◌, ◌<◌, ◌↔◌, length, Some, IfErr, IfOk, IsTrue, MatchOption};
+ghost use Rattle.std.specs.Prelude.{◌≡◌, ◌<◌, ◌↔◌, IfErr, IfOk, IsTrue, MatchOption};
 ghost use Rattle.exact_frac.specs.Count.{unfit_after};
 ghost use Rattle.lp_run.specs.Instance.{column_count, row_count};
 ghost use Rattle.lp_run.specs.Step.{ArtificialsZero, Eligible, Enters, NoneEligible, direction};
-ghost use Rattle.bland_ratio.specs.Leave.{Decides, IsBasisOf, direction_where, ratio_place};
+ghost use Rattle.bland_ratio.specs.Leave.{direction_where, ratio_place};
 ghost use Rattle.plain_table.specs.Next.{ComesNext, IsTableOf, OverflowsNext, column as column_of, prices as prices_of};
-ghost use Rattle.plain_table.specs.Inner.Next.{DecidesAt, HasUnfitRatio, StandsOff, first_ratio};
+ghost use Rattle.plain_table.specs.Inner.Next.{DecidesAt, HasUnfitRatio, StandsOff};
 
-use crate::rows::read_column;
+use crate::motion::decide;
 use crate::table::Table;
-use bland_ratio::{Leave, RatioUnfit, improves, leaving};
+use bland_ratio::{Leave, RatioUnfit, improves};
 use exact_frac::{Arith, Frac};
-use instance_model::{Instance, State};
+use instance_model::Instance;
 use lp_model::{Entry, Kind, Phase, Place};
 use lp_run::ColumnKind;
 
@@ -61,49 +61,6 @@ pub fn falls(cost: Frac) -> bool
     ensures { direction cost ≡ direction_where result }
 {
     !cost.cmp(&Frac::ZERO).is_lt()
-}
-
-// The column that enters: its number and its reduced cost, under the number of the state.
-#[derive(Clone, Copy, Debug)]
-struct Entering {
-    number: u64,
-    column: u32,
-    cost: Frac,
-}
-
-impl Entering {
-    // The limit that decides its step; `alpha` is the column in terms of the basis.
-    fn leave<A: Arith>(
-        &self,
-        inst: &Instance,
-        state: &State,
-        values: &[Frac],
-        alpha: &[Frac],
-        arith: &mut A,
-    ) -> Result<Leave, Place>
-        requires state { IsBasisOf inst.now state.now }
-        requires values { length values.now ≡ row_count inst.now }
-        requires column { self.now.column < column_count inst.now }
-        requires alpha { length alpha.now ≡ row_count inst.now }
-        ensures decides { IfOk result (Decides inst.now state.now self.now.column (direction self.now.cost) values.now alpha.now) }
-        ensures overflow { IfErr result (λ here. first_ratio (A.width arith.old) inst.now self.now.number state.now self.now.column self.now.cost values.now alpha.now ≡ Some here) }
-        ensures width { A.width arith.new ≡ A.width arith.old }
-        ensures unfit { A.unfit_count arith.new ≡ unfit_after (A.unfit_count arith.old) result }
-    {
-        let down = falls(self.cost);
-        match leaving(
-            inst,
-            state,
-            values,
-            self.column as usize,
-            down,
-            alpha,
-            arith,
-        ) {
-            Ok(leave) => Ok(leave),
-            Err(refusal) => Err(ratio_place(self.number, self.column, refusal)),
-        }
-    }
 }
 
 impl Table {
@@ -166,13 +123,17 @@ impl Table {
         ensures width { A.width arith.new ≡ A.width arith.old }
         ensures unfit { A.unfit_count arith.new ≡ unfit_after (A.unfit_count arith.old) result }
     {
-        read_column(&self.rows, q as usize, &mut self.alpha);
-        let step = Entering {
-            number: self.number,
-            column: q,
-            cost: self.costs[q as usize],
-        };
-        step.leave(inst, &self.state, &self.values, &self.alpha, arith)
+        decide(
+            inst,
+            &self.state,
+            &self.rows,
+            &self.values,
+            &self.costs,
+            self.number,
+            q,
+            arith,
+            &mut self.alpha,
+        )
     }
 
     // Whether each artificial is 0.

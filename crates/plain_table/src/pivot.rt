@@ -1,20 +1,22 @@
 //! The parts of a table as a column takes a position, worked into spare parts.
-ghost use Rattle.std.specs.Prelude.{◌≡◌, ◌≢◌, ◌<◌, ◌^◌, [], get_or, length, OnOk, Some, None};
+ghost use Rattle.std.specs.Prelude.{◌≡◌, ◌≢◌, ◌<◌, ◌≤◌, ◌^◌, [], get_or, length, take, IfOk, OnOk, Some, None};
 ghost use Rattle.lp_model.specs.declared.Kind.TheVariants as kind;
 ghost use Rattle.lp_run.specs.Listing.{place};
 ghost use Rattle.rational.specs.Rational.{zero_ℚ};
 ghost use Rattle.rational.specs.Sum.{at};
 ghost use Rattle.exact_frac.specs.Count.{unfit_after};
-ghost use Rattle.plain_table.specs.Inner.Lines.{Judges};
+ghost use Rattle.plain_table.specs.Inner.Lines.{IsSupport, Judges};
 ghost use Rattle.plain_table.specs.Inner.Pivots.{ArePivoted, line_listing, pivot_line, swap_listing};
 ghost use Rattle.plain_table.specs.Inner.Rows.{AreWide};
 
 use crate::line::{divide_line, subtract_line};
 use crate::row::Row;
 use crate::rows::eliminate_all;
+use crate::support::find_support;
 use crate::values::move_values;
 use exact_frac::{Arith, Frac};
 use lp_model::{Kind, Place};
+use std::thread::Threads;
 
 /// What a column does that takes a position: it falls where `down` says so, or else rises, by the ratio, from `rest`.
 #[derive(Debug, Drop)]
@@ -73,9 +75,29 @@ fn divide_pivot_row<A: Arith>(
     divide_line(here, row.as_slice(), row.get(pivot.column), arith, by)
 }
 
-/// Works all parts of the table after the pivot into spare ones: the pivot row, the other rows, the basic values, whose
-/// elements in the entering column are `alpha`, and the reduced costs.
-pub fn work_swap<A: Arith>(
+// How many numbers are not 0.
+fn count_nonzero(line: &[Frac]) -> usize {
+    line.iter().filter(|number| !number.is_zero()).count()
+}
+
+// How often the rows are halved for threads of their own: a thread costs some 14 microseconds, an item that is worked a
+// tenth of one. More halves than processors even out rows that differ.
+fn depth_for(alpha: &[Frac], columns: usize) -> u32 {
+    let worked = count_nonzero(alpha).saturating_mul(columns);
+    if worked < 2_000 {
+        0
+    } else if worked <= 100_000 {
+        2
+    } else {
+        3
+    }
+}
+
+/// Works all parts of the table after the pivot into spare ones: the pivot row, the columns in which it is not 0, the
+/// other rows in these columns, the basic values, whose elements in the entering column are `alpha`, and the reduced
+/// costs. It answers how many these columns are.
+pub fn work_swap<R: Threads + Sync, A: Arith>(
+    rt: &R,
     pivot: &Pivot,
     alpha: &[Frac],
     rows: &[Row],
@@ -83,10 +105,11 @@ pub fn work_swap<A: Arith>(
     costs: &[Frac],
     arith: &mut A,
     by: &mut [Frac],
+    support: &mut [u32],
     out_rows: &mut [Row],
     out_values: &mut [Frac],
     out_costs: &mut [Frac],
-) -> Result<(), Place>
+) -> Result<usize, Place>
     requires wide { AreWide (length costs.now) rows.now }
     requires values { length values.now ≡ length rows.now }
     requires alpha { length alpha.now ≡ length rows.now }
@@ -96,12 +119,15 @@ pub fn work_swap<A: Arith>(
     requires few_columns { length costs.now < 2 ^ 32 }
     requires few_rows { length rows.now < 2 ^ 32 }
     requires spare_line { length by.old ≡ length costs.now }
+    requires spare_support { length support.old ≡ length costs.now }
     requires spare_rows { length out_rows.old ≡ length rows.now }
     requires spare_wide { AreWide (length costs.now) out_rows.old }
     requires spare_values { length out_values.old ≡ length rows.now }
     requires spare_costs { length out_costs.old ≡ length costs.now }
     ensures answer { Judges (A.width arith.old) (swap_listing pivot.now alpha.now rows.now values.now costs.now) result }
-    ensures pivoted { OnOk result (ArePivoted pivot.now alpha.now rows.now values.now costs.now out_rows.new out_values.new out_costs.new) }
+    ensures pivoted { IfOk result (λ count. ArePivoted pivot.now alpha.now rows.now values.now costs.now (take count support.new) out_rows.new out_values.new out_costs.new) }
+    ensures line { OnOk result (by.new ≡ pivot_line pivot.now rows.now) }
+    ensures support { IfOk result (λ count. (count ≤ length support.new) × IsSupport by.new (take count support.new)) }
     ensures spare_wide { AreWide (length costs.now) out_rows.new }
     ensures width { A.width arith.new ≡ A.width arith.old }
     ensures unfit { A.unfit_count arith.new ≡ unfit_after (A.unfit_count arith.old) result }
@@ -111,9 +137,15 @@ pub fn work_swap<A: Arith>(
     let position = pivot.position as usize;
     let (down, rest, ratio) = (pivot.down, pivot.rest, pivot.ratio);
     divide_pivot_row(pivot, rows, arith, by)?;
-    eliminate_all(number, position, q, by, rows, arith, out_rows)?;
+    let count = find_support(by, support);
+    let columns = &support[..count];
+    let depth = depth_for(alpha, count);
+    eliminate_all(
+        rt, depth, number, position, 0, q, by, columns, rows, arith, out_rows,
+    )?;
     move_values(
         number, position, down, rest, ratio, values, alpha, arith, out_values,
     )?;
-    subtract_line(costs_place(number), costs, costs[q], by, arith, out_costs)
+    subtract_line(costs_place(number), costs, costs[q], by, arith, out_costs)?;
+    Ok(count)
 }

@@ -3,11 +3,11 @@ ghost use Rattle.std.specs.Prelude.{◌≡◌, ◌<◌};
 ghost use Rattle.rational.specs.Sparse.{entry_at};
 ghost use Rattle.exact_frac.specs.Count.{unfit_after};
 ghost use Rattle.exact_frac.specs.Settles.{Settles};
-ghost use Rattle.lp_run.specs.Instance.{row_count, start_value as start_of_bounds, structural as structural_of, structural_count};
+ghost use Rattle.lp_run.specs.Instance.{row_count, structural as structural_of, structural_count};
 ghost use Rattle.plain_table.specs.Inner.Starts.{residual_work};
 
 use exact_frac::{Arith, Frac, Unfit};
-use instance_model::{Bounds, Instance};
+use instance_model::Instance;
 use lp_model::Phase;
 use sparse_steps::less_product;
 
@@ -20,18 +20,6 @@ pub fn entry(inst: &Instance, structural: usize, row: usize) -> Frac
     inst.entries(structural).get(row).unwrap_or(Frac::ZERO)
 }
 
-// Where a column within these bounds starts: at the finite lower end, else at the finite upper end, else at 0.
-#[tactic(auto, using(exact_frac::specs::Constants::constants))]
-fn start_value(bounds: Bounds) -> Frac
-    ensures { result ≡ start_of_bounds bounds }
-{
-    match (bounds.lower(), bounds.upper()) {
-        (Some(lower), _) => lower,
-        (None, Some(upper)) => upper,
-        (None, None) => Frac::ZERO,
-    }
-}
-
 /// The right side of a row less the structurals at their start, in rising structurals.
 pub fn residual<A: Arith>(inst: &Instance, row: usize, arith: &mut A) -> Result<Frac, Unfit>
     requires { row < row_count inst.now }
@@ -41,11 +29,8 @@ pub fn residual<A: Arith>(inst: &Instance, row: usize, arith: &mut A) -> Result<
 {
     let mut rest = inst.right(row);
     for j in 0..inst.structurals() {
-        let value = start_value(inst.bounds(Phase::One, j));
-        match less_product(rest, entry(inst, j, row), value, arith) {
-            Ok(left) => rest = left,
-            Err(unfit) => return Err(unfit),
-        }
+        let value = inst.bounds(Phase::One, j).start_value();
+        rest = less_product(rest, entry(inst, j, row), value, arith)?;
     }
     Ok(rest)
 }

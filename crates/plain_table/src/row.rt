@@ -1,12 +1,12 @@
 //! Rows of a table.
-ghost use Rattle.std.specs.Prelude.{◌≡◌, ◌<◌, ◌^◌, length, OnOk};
+ghost use Rattle.std.specs.Prelude.{◌≡◌, ◌<◌, ◌≤◌, ◌^◌, ℕ, get_or, length, OnOk};
 ghost use Rattle.rational.specs.Sum.{at};
 ghost use Rattle.lp_run.specs.Instance.{column_count, row_count};
 ghost use Rattle.plain_table.specs.Inner.Starts.{IsStartRow, start_row_listing};
 ghost use Rattle.exact_frac.specs.Count.{unfit_after};
-ghost use Rattle.plain_table.specs.Inner.Lines.{AreLess, Judges, less_listing};
+ghost use Rattle.plain_table.specs.Inner.Lines.{AreLessPacked, AreRising, IsSupport, IsUnpacked, Judges, less_listing};
 
-use crate::line::subtract_line;
+use crate::line::{subtract_packed, unpack};
 use crate::start::fill_row;
 use exact_frac::{Arith, Frac};
 use instance_model::Instance;
@@ -63,25 +63,46 @@ impl Row {
         self.cells.as_mut_slice().copy_from_slice(numbers);
     }
 
-    /// Takes a line less a multiple of another, all of the same length.
+    /// Takes a line less a multiple of another, in the columns where that one is not 0, one after another.
     pub fn set_less<A: Arith>(
         &mut self,
         here: Place,
         line: &[Frac],
         factor: Frac,
         by: &[Frac],
+        columns: &[u32],
         arith: &mut A,
     ) -> Result<(), Place>
         requires by { length by.now ≡ length line.now }
-        requires count { length self.old ≡ length line.now }
+        requires support { IsSupport by.now columns.now }
+        requires count { length columns.now ≤ length self.old }
         requires few { length line.now < 2 ^ 32 }
         ensures answer { Judges (A.width arith.old) (less_listing here line.now factor by.now) result }
-        ensures less { OnOk result (AreLess line.now factor by.now self.new) }
+        ensures less { OnOk result (AreLessPacked line.now factor by.now columns.now self.new) }
         ensures length { length self.new ≡ length self.old }
         ensures width { A.width arith.new ≡ A.width arith.old }
         ensures unfit { A.unfit_count arith.new ≡ unfit_after (A.unfit_count arith.old) result }
     {
-        subtract_line(here, line, factor, by, arith, self.cells.as_mut_slice())
+        subtract_packed(
+            here,
+            line,
+            factor,
+            by,
+            columns,
+            arith,
+            self.cells.as_mut_slice(),
+        )
+    }
+
+    /// Takes numbers that come one after another into their columns, which rise.
+    pub fn take_in(&mut self, columns: &[u32], packed: &[Frac])
+        requires rising { AreRising columns.now }
+        requires within { (k : ℕ) → k < length columns.now → get_or columns.now k 0 < length self.old }
+        requires count { length columns.now ≤ length packed.now }
+        ensures unpacked { IsUnpacked columns.now packed.now self.old self.new }
+        ensures length { length self.new ≡ length self.old }
+    {
+        unpack(columns, packed, self.cells.as_mut_slice());
     }
 
     /// Takes the numbers of the row in that position of the first table.

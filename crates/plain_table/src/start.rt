@@ -101,10 +101,7 @@ pub fn fill_rows<A: Arith>(inst: &Instance, arith: &mut A, out: &mut [Row]) -> R
     ensures unfit { A.unfit_count arith.new ≡ unfit_after (A.unfit_count arith.old) result }
 {
     for i in 0..inst.rows() {
-        match out[i].set_start(inst, i, arith) {
-            Ok(()) => {}
-            Err(place) => return Err(place),
-        }
+        out[i].set_start(inst, i, arith)?;
     }
     Ok(())
 }

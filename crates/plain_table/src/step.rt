@@ -15,6 +15,7 @@ use crate::table::Table;
 use exact_frac::Arith;
 use instance_model::Instance;
 use lp_model::{Entry, Phase, Place, Side};
+use std::thread::Threads;
 
 impl Table {
     /// Takes in the next entry of the run: the table then stands at the state after it. It takes no memory.
@@ -23,8 +24,9 @@ impl Table {
     ///
     /// The place of the first value listed under the table's number that does not fit the width, where there is one.
     /// The table is unchanged then.
-    pub fn step<A: Arith>(
+    pub fn step<R: Threads + Sync, A: Arith>(
         &mut self,
+        rt: &R,
         inst: &Instance,
         entry: Entry,
         arith: &mut A,
@@ -39,7 +41,7 @@ impl Table {
     {
         match entry {
             Entry::Flip(q) => self.flip(inst, q, arith),
-            Entry::Swap(q, position, end) => self.swap(inst, q, position, end, arith),
+            Entry::Swap(q, position, end) => self.swap(rt, inst, q, position, end, arith),
             Entry::Turn => self.turn(inst, arith),
         }
     }
@@ -73,8 +75,9 @@ impl Table {
     }
 
     // A column takes a position, and the one that was there stands at the end.
-    fn swap<A: Arith>(
+    fn swap<R: Threads + Sync, A: Arith>(
         &mut self,
+        rt: &R,
         inst: &Instance,
         q: u32,
         position: u32,
@@ -89,7 +92,8 @@ impl Table {
         ensures width { A.width arith.new ≡ A.width arith.old }
         ensures unfit { A.unfit_count arith.new ≡ unfit_after (A.unfit_count arith.old) result }
     {
-        work_entering(
+        let count = work_entering(
+            rt,
             inst,
             &self.state,
             &self.rows,
@@ -101,16 +105,19 @@ impl Table {
             arith,
             &mut self.alpha,
             &mut self.pivot_row,
+            &mut self.support,
             &mut self.spare_rows,
             &mut self.spare_values,
             &mut self.spare_costs,
         )?;
         take_all_over(
             position as usize,
+            0,
             q as usize,
-            self.costs.len(),
+            &self.pivot_row,
+            &self.support[..count],
             &mut self.rows,
-            &mut self.spare_rows,
+            &self.spare_rows,
         );
         std::mem::swap(&mut self.values, &mut self.spare_values);
         std::mem::swap(&mut self.costs, &mut self.spare_costs);

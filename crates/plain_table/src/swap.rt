@@ -1,11 +1,12 @@
 //! A swap, worked into spare parts.
-ghost use Rattle.std.specs.Prelude.{◌≡◌, ◌<◌, ◌^◌, length, OnOk};
+ghost use Rattle.std.specs.Prelude.{◌≡◌, ◌<◌, ◌≤◌, ◌^◌, length, take, IfOk};
 ghost use Rattle.lp_model.specs.declared.Entry.TheVariants.{Swap};
 ghost use Rattle.lp_model.specs.declared.Side.{Side};
 ghost use Rattle.exact_frac.specs.Count.{unfit_after};
 ghost use Rattle.lp_run.specs.Instance.{column_count};
 ghost use Rattle.lp_run.specs.State.{rest};
 ghost use Rattle.plain_table.specs.Answers.{IsNextOf, JudgesStep};
+ghost use Rattle.plain_table.specs.Inner.Lines.{IsSupport};
 ghost use Rattle.plain_table.specs.Inner.Rows.{AreWide};
 ghost use Rattle.plain_table.specs.Inner.Steps.{SwapsTo, table_of};
 
@@ -15,10 +16,11 @@ use crate::row::Row;
 use exact_frac::{Arith, Frac};
 use instance_model::{Instance, State};
 use lp_model::{Place, Status};
+use std::thread::Threads;
 
-// The value at which a column rests.
+/// The value at which column `q` rests in a state: its lower or upper end, or 0.
 #[tactic(auto, using(exact_frac::specs::Constants::constants))]
-fn rest_of(inst: &Instance, state: &State, q: usize) -> Frac
+pub fn rest_of(inst: &Instance, state: &State, q: usize) -> Frac
     requires column { q < column_count inst.now }
     requires status { q < length state.now.statuses }
     ensures { result ≡ rest inst.now state.now q }
@@ -32,9 +34,10 @@ fn rest_of(inst: &Instance, state: &State, q: usize) -> Frac
 }
 
 /// Works all parts of the table after the swap by which column `q` takes the position into spare ones: the rows that
-/// are worked anew, the basic values and the reduced costs. The elements of column `q` come into `alpha`, and the pivot
-/// row into `by`.
-pub fn work_entering<A: Arith>(
+/// are worked anew, the basic values and the reduced costs. The elements of column `q` come into `alpha`, the pivot row
+/// into `by`, and the columns in which it is not 0, as many as the answer says, into `support`.
+pub fn work_entering<R: Threads + Sync, A: Arith>(
+    rt: &R,
     inst: &Instance,
     state: &State,
     rows: &[Row],
@@ -46,21 +49,24 @@ pub fn work_entering<A: Arith>(
     arith: &mut A,
     alpha: &mut [Frac],
     by: &mut [Frac],
+    support: &mut [u32],
     out_rows: &mut [Row],
     out_values: &mut [Frac],
     out_costs: &mut [Frac],
-) -> Result<(), Place>
+) -> Result<usize, Place>
     requires next { (end : Side) × IsNextOf inst.now (table_of state.now rows.now values.now costs.now number) (Swap q position end) }
     requires few_rows { length rows.now < 2 ^ 32 }
     requires few_columns { length costs.now < 2 ^ 32 }
     requires alpha { length alpha.old ≡ length rows.now }
     requires spare_line { length by.old ≡ length costs.now }
+    requires spare_support { length support.old ≡ length costs.now }
     requires spare_rows { length out_rows.old ≡ length rows.now }
     requires spare_wide { AreWide (length costs.now) out_rows.old }
     requires spare_values { length out_values.old ≡ length rows.now }
     requires spare_costs { length out_costs.old ≡ length costs.now }
     ensures listed { JudgesStep (A.width arith.old) inst.now (table_of state.now rows.now values.now costs.now number) result }
-    ensures stands { OnOk result (SwapsTo inst.now (table_of state.now rows.now values.now costs.now number) q position out_rows.new out_values.new out_costs.new) }
+    ensures stands { IfOk result (λ count. SwapsTo inst.now (table_of state.now rows.now values.now costs.now number) q position by.new (take count support.new) out_rows.new out_values.new out_costs.new) }
+    ensures support { IfOk result (λ count. (count ≤ length support.new) × IsSupport by.new (take count support.new)) }
     ensures spare_wide { AreWide (length costs.now) out_rows.new }
     ensures width { A.width arith.new ≡ A.width arith.old }
     ensures unfit { A.unfit_count arith.new ≡ unfit_after (A.unfit_count arith.old) result }
@@ -77,6 +83,6 @@ pub fn work_entering<A: Arith>(
         ratio: motion.ratio,
     };
     work_swap(
-        &pivot, alpha, rows, values, costs, arith, by, out_rows, out_values, out_costs,
+        rt, &pivot, alpha, rows, values, costs, arith, by, support, out_rows, out_values, out_costs,
     )
 }

@@ -22,6 +22,8 @@ pub struct Table {
     pub(crate) spare_values: Vec<Frac>,
     pub(crate) spare_costs: Vec<Frac>,
     pub(crate) pivot_row: Vec<Frac>,
+    // the columns in which the pivot row is not 0
+    pub(crate) support: Vec<u32>,
     // the entering column, by position
     pub(crate) alpha: Vec<Frac>,
 }

@@ -29,14 +29,6 @@ pub <ℚ_irrefl : (a : ℚ) → ¬ (a <ℚ a)
 pub <ℚ_trans : (a b c : ℚ) → a <ℚ b → b <ℚ c → a <ℚ c
 <ℚ_trans a b c = linear 3 (λ x y z. x ≺ y ⟹ y ≺ z ⟹ x ≺ z) (omega (arith, ints)) a b c
 
--- a number above 0 is not 0
-pub above_apart : (a : ℚ) → zero_ℚ <ℚ a → a ≢ zero_ℚ
-above_apart a above none = linear 1 (λ x. 𝟘 ≺ x ⟹ x ≐ 𝟘 ⟹ never) (omega (arith, ints)) a above none
-
--- no number is both above 0 and not
-pub above_and_below : (a : ℚ) → zero_ℚ <ℚ a → a ≤ℚ zero_ℚ → ⊥
-above_and_below a above below = linear 1 (λ x. 𝟘 ≺ x ⟹ x ≼ 𝟘 ⟹ never) (omega (arith, ints)) a above below
-
 -- a number above 0 is its own size
 pub abs_ℚ-above : (a : ℚ) → zero_ℚ <ℚ a → abs_ℚ a ≡ a
 unfolding abs_ℚ
@@ -134,6 +126,21 @@ cmp_equal a b h = subst (λ r. MatchOrdering r (a <ℚ b) (a ≡ b) (b <ℚ a)) 
 
 pub cmp_greater : (a b : ℚ) → cmp_ℚ a b ≡ Greater → b <ℚ a
 cmp_greater a b h = subst (λ r. MatchOrdering r (a <ℚ b) (a ≡ b) (b <ℚ a)) h (cmp_ℚ_ranks a b)
+
+abs-zero : abs_ℚ zero_ℚ ≡ zero_ℚ
+unfolding abs_ℚ zero_ℚ
+abs-zero = refl
+
+-- the size of a number by how it compares with 0
+module _ (a z : ℚ) (zero : z ≡ zero_ℚ) where
+  pub size_below : Less ≡ cmp_ℚ a z → neg_ℚ a ≡ abs_ℚ a
+  size_below e = sym (abs_ℚ-below a (subst (λ z. a <ℚ z) zero (cmp_less a z (sym e))))
+
+  pub size_equal : Equal ≡ cmp_ℚ a z → a ≡ abs_ℚ a
+  size_equal e = let none : a ≡ zero_ℚ = cmp_equal a z (sym e) ∙ zero in none ∙ sym abs-zero ∙ ap abs_ℚ (sym none)
+
+  pub size_above : Greater ≡ cmp_ℚ a z → a ≡ abs_ℚ a
+  size_above e = sym (abs_ℚ-above a (subst (λ z. z <ℚ a) zero (cmp_greater a z (sym e))))
 
 pub cmp_ℚ_total : IsTotalOrder cmp_ℚ
 cmp_ℚ_total = strict ◌<ℚ◌ <ℚ_irrefl <ℚ_trans cmp_ℚ cmp_ℚ_ranks

@@ -32,7 +32,8 @@ module _ {V : Type 0} where
   first_repeated-short (p ∷ []) le = refl
   first_repeated-short (p ∷ (q ∷ ps)) le = absurd (omega arith)
 
-  neighbours : (ps : List (ℕ × V)) (j : ℕ) (d : ℕ × V) → j + 1 < length ps → first_repeated (drop j ps) ≡ cond (eqb (get_or ps j d).0 (get_or ps (j + 1) d).0) (Some (get_or ps j d).0) (first_repeated (drop (j + 1) ps))
+  neighbours : (ps : List (ℕ × V)) (j : ℕ) (d : ℕ × V) → j + 1 < length ps → first_repeated (drop j ps) ≡ cond (eqb (get_or ps j d).0 (get_or ps (j + 1) d).0)
+      (Some (get_or ps j d).0) (first_repeated (drop (j + 1) ps))
   neighbours ps j d lt =
       let here = at_drop_more first_repeated ps j d (omega arith) in
       let next = drop_more ps (j + 1) d lt in
@@ -97,15 +98,20 @@ module _ {V : Type 0} where
       })
       (cases_eq p.0 q.0)
 
-  sorted_rising : (len from : ℕ) (ps : List (ℕ × V)) → IsNonDecreasingBy (λ p. p.0) ps → All (λ p. p.0 < len) ps → ((d : ℕ × V) → 0 < length ps → from ≤ (get_or ps 0 d).0) → first_repeated ps ≡ None → IsRising len from ps
+  sorted_rising : (len from : ℕ) (ps : List (ℕ × V)) → IsNonDecreasingBy (λ p. p.0) ps → All (λ p. p.0 < len) ps
+      → ((d : ℕ × V) → 0 < length ps → from ≤ (get_or ps 0 d).0) → first_repeated ps ≡ None → IsRising len from ps
   sorted_rising len from [] up below low none = tt
   sorted_rising len from (p ∷ []) up below low none = (low p (omega arith), below 0 p (omega arith), tt)
   sorted_rising len from (p ∷ (q ∷ ps)) up below low none =
       let le = sorted_next p q ps up in
       ⊎_elim
       (λ (same : p.0 ≡ q.0). let some = cond-true (eqb p.0 q.0) (Some p.0) (first_repeated (q ∷ ps)) (eq-eqb p.0 q.0 same) in absurd cc)
-      (λ (other : p.0 ≢ q.0).
-      (low p (omega arith), below 0 p (omega arith), sorted_rising len (p.0 + 1) (q ∷ ps) (sorted_tail p (q ∷ ps) up) (λ k d lt. below (suc k) d (omega arith)) (λ d lt. omega arith) (sym (cond-false (eqb p.0 q.0) _ _ (ne_eqb p.0 q.0 other)) ∙ none)))
+      (λ (other : p.0 ≢ q.0). (
+        low p (omega arith),
+        below 0 p (omega arith),
+        sorted_rising len (p.0 + 1) (q ∷ ps) (sorted_tail p (q ∷ ps) up) (λ k d lt. below (suc k) d (omega arith))
+            (λ d lt. omega arith) (sym (cond-false (eqb p.0 q.0) _ _ (ne_eqb p.0 q.0 other)) ∙ none),
+      ))
       (cases_eq p.0 q.0)
 
   -- what was sorted

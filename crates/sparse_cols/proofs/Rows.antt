@@ -22,7 +22,8 @@ module _ {V : Type 0} where
   room_left row filled room i v h lt none =
       omega (arith, h.counted, h.has_room, count-set row i v lt none, count_by-le-length is_some (set row i (Some v)), length-set row i (Some v))
 
-  pub IsFilledAt-more : (row : List (Option V)) (filled : List ℕ) (room i : ℕ) (v : V) → IsFilledAt row filled room → i < length row → value_in row i ≡ None → IsFilledAt (set row i (Some v)) (filled ++ i ∷ []) room
+  pub IsFilledAt-more : (row : List (Option V)) (filled : List ℕ) (room i : ℕ) (v : V) → IsFilledAt row filled room → i < length row → value_in row i ≡ None
+      → IsFilledAt (set row i (Some v)) (filled ++ i ∷ []) room
   IsFilledAt-more row filled room i v h lt none = record {
     in_range = subst (λ (n : ℕ). All (λ k. k < n) (filled ++ i ∷ [])) (sym (length-set row i (Some v))) (All-push (λ k. k < length row) filled i h.in_range lt);
     empty_elsewhere = λ j all.
@@ -34,7 +35,8 @@ module _ {V : Type 0} where
   }
 
   -- another value at a row that has one
-  pub IsFilledAt-again : (row : List (Option V)) (filled : List ℕ) (room i : ℕ) (u v : V) → IsFilledAt row filled room → i < length row → value_in row i ≡ Some u → IsFilledAt (set row i (Some v)) filled room
+  pub IsFilledAt-again : (row : List (Option V)) (filled : List ℕ) (room i : ℕ) (u v : V) → IsFilledAt row filled room → i < length row
+      → value_in row i ≡ Some u → IsFilledAt (set row i (Some v)) filled room
   IsFilledAt-again row filled room i u v h lt some =
       let f : Option V → ℕ = λ x. cond (is_some x) 1 0 in
       let before : f (value_in row i) ≡ 1 = ap f some in
@@ -60,13 +62,15 @@ module _ {V : Type 0} where
   pub empty_read : (row : List (Option V)) (i : ℕ) (x : Option V) → i < length row → x ≡ get_or row i x → is_some x ≡ false → value_in row i ≡ None
   empty_read row i x lt at e = sym (get_or_read row i x lt at None) ∙ none_from x e
 
-  pub IsFilledAt-written : (row : List (Option V)) (filled : List ℕ) (room i : ℕ) (x : Option V) (v : V) → IsFilledAt row filled room → i < length row → x ≡ get_or row i x → is_some x ≡ true → IsFilledAt (set row i (Some v)) filled room
+  pub IsFilledAt-written : (row : List (Option V)) (filled : List ℕ) (room i : ℕ) (x : Option V) (v : V) → IsFilledAt row filled room → i < length row
+      → x ≡ get_or row i x → is_some x ≡ true → IsFilledAt (set row i (Some v)) filled room
   IsFilledAt-written row filled room i x v h lt at e =
       let there = some_from x e in
       IsFilledAt-again row filled room i there.0 v h lt (sym (get_or_read row i x lt at None) ∙ there.1)
 
   -- the last row of the list is emptied
-  pub emptied : (row : List (Option V)) (filled rest : List ℕ) (i : ℕ) → filled ≡ rest ++ i ∷ [] → i < length row → ((j : ℕ) → All (λ k. k ≢ j) filled → value_in row j ≡ None) → (j : ℕ) → All (λ k. k ≢ j) rest → value_in (set row i None) j ≡ None
+  pub emptied : (row : List (Option V)) (filled rest : List ℕ) (i : ℕ) → filled ≡ rest ++ i ∷ [] → i < length row
+      → ((j : ℕ) → All (λ k. k ≢ j) filled → value_in row j ≡ None) → (j : ℕ) → All (λ k. k ≢ j) rest → value_in (set row i None) j ≡ None
   emptied row filled rest i e lt empty j all =
       ⊎_elim
       (λ (same : j ≡ i). rw same (get_or-set_same row i None None lt))
@@ -80,7 +84,8 @@ module _ {V : Type 0} where
       let emptied = subst (λ (ks : List ℕ). (j : ℕ) → All (λ k. k ≢ j) ks → value_in row j ≡ None) e empty in
       ext_get_or None row (replicate (length row) None) (sym (length-replicate (length row) None)) (λ i lt. emptied i (All-nil (λ k. k ≢ i)) ∙ sym (get_or-replicate (length row) i None None lt))
 
-  pub IsFilledAt-none : (row : List (Option V)) (filled rest : List ℕ) (room : ℕ) → filled ≡ [] → rest ≡ [] → ((j : ℕ) → All (λ k. k ≢ j) filled → value_in row j ≡ None) → length row ≤ room → IsFilledAt row rest room
+  pub IsFilledAt-none : (row : List (Option V)) (filled rest : List ℕ) (room : ℕ) → filled ≡ [] → rest ≡ []
+      → ((j : ℕ) → All (λ k. k ≢ j) filled → value_in row j ≡ None) → length row ≤ room → IsFilledAt row rest room
   IsFilledAt-none row filled rest room e none empty le =
       let f : Option V → ℕ = λ x. cond (is_some x) 1 0 in
       let uncounted : count_by is_some row ≡ 0 = ap (λ (r : List (Option V)). count_by is_some r) (all_empty row filled e empty) ∙ omega (arith, sum_by-replicate f (length row) None) in
@@ -106,7 +111,8 @@ module _ {V : Type 0} where
   length-scattered [] row = refl
   length-scattered (p ∷ ps) row = length-scattered ps (set row p.0 (Some p.1)) ∙ length-set row p.0 (Some p.1)
 
-  pub scattered-next : (ps : List (ℕ × V)) (row next : List (Option V)) (k : ℕ) (p : ℕ × V) → k < length ps → get_or ps k p ≡ p → next ≡ set row p.0 (Some p.1) → scattered (drop (k + 1) ps) next ≡ scattered (drop k ps) row
+  pub scattered-next : (ps : List (ℕ × V)) (row next : List (Option V)) (k : ℕ) (p : ℕ × V) → k < length ps → get_or ps k p ≡ p → next ≡ set row p.0 (Some p.1)
+      → scattered (drop (k + 1) ps) next ≡ scattered (drop k ps) row
   scattered-next ps row next k p lt at e =
       let step = at_drop_more (λ (qs : List (ℕ × V)). scattered qs row) ps k p lt in
       ap (λ (r : List (Option V)). scattered (drop (k + 1) ps) r) e ∙ sym (step ∙ ap (λ (q : ℕ × V). scattered (drop (k + 1) ps) (set row q.0 (Some q.1))) at)
@@ -123,5 +129,6 @@ module _ {V : Type 0} where
       let here : value_in next i ≡ Some p.1 = subst (λ (n : ℕ). value_in next n ≡ Some p.1) same (get_or-set_same row p.0 (Some p.1) None h.1) in
       ap (λ (x : Option V). or_else x (value_in next i)) absent ∙ here ∙ ap (λ (x : Option V). or_else x (value_in row i)) (sym (cond-true (eqb p.0 i) (Some p.1) (value_at ps i) (eq-eqb p.0 i same))))
       (λ (other : p.0 ≢ i).
-      ap (λ (x : Option V). or_else (value_at ps i) x) (get_or-set_other row p.0 i (Some p.1) None (λ e. other (sym e))) ∙ ap (λ (x : Option V). or_else x (value_in row i)) (sym (cond-false (eqb p.0 i) (Some p.1) (value_at ps i) (ne_eqb p.0 i other))))
+      ap (λ (x : Option V). or_else (value_at ps i) x) (get_or-set_other row p.0 i (Some p.1) None (λ e. other (sym e)))
+      ∙ ap (λ (x : Option V). or_else x (value_in row i)) (sym (cond-false (eqb p.0 i) (Some p.1) (value_at ps i) (ne_eqb p.0 i other))))
       (cases_eq p.0 i)

@@ -48,7 +48,8 @@ module _ (w : ℕ) (inst : Instance) where
   }
 
   -- a value of the step that does not fit is the first of all
-  pub first-of-step : (log : List Entry) (s : State) (now : List Listed) (p : Place) → HasFitted w inst log → StepLists inst (length log) s now → first_unfit w now ≡ Some p → IsFirstUnfit w inst log s p
+  pub first-of-step : (log : List Entry) (s : State) (now : List Listed) (p : Place) → HasFitted w inst log → StepLists inst (length log) s now
+      → first_unfit w now ≡ Some p → IsFirstUnfit w inst log s p
   first-of-step log s now p h lists first = (
     h.before,
     now,

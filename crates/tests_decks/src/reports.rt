@@ -39,7 +39,7 @@ fn assert_text(
     report: &Report,
     text: &[u8],
 ) -> Result<(), Fail>
-    requires { HasLengthsOf deck.now (outcome_of report.now.outcome) }
+    requires { HasLengthsOf deck.now report.now.outcome }
 {
     let mut sink = MemSink::new(alloc, 1000, Vec::new(alloc))?;
     write_report(alloc, deck, report, &mut sink)?;
@@ -64,6 +64,7 @@ fn an_optimum_is_written(rt: HostRuntime) -> Result<(), Fail> {
     };
     let report = Report {
         outcome,
+        basis: None,
         log: Some(log),
     };
     let text =
@@ -77,6 +78,7 @@ fn farkas_numbers_are_written(rt: HostRuntime) -> Result<(), Fail> {
     let y = two(rt.alloc(), Frac::of(2, 1), Frac::of(-1, 3))?;
     let report = Report {
         outcome: Outcome::Infeasible { y },
+        basis: None,
         log: None,
     };
     let text = b"LPCERT 1\nDECK STOCK\nINFEASIBLE\nFARKAS 2 SPACE\nFARKAS -1/3 \nEND\n";
@@ -91,6 +93,7 @@ fn a_ray_is_written(rt: HostRuntime) -> Result<(), Fail> {
     let log = Some(Log::new(rt.alloc()));
     let report = Report {
         outcome: Outcome::Unbounded { x, ray },
+        basis: None,
         log,
     };
     let text =
@@ -104,6 +107,7 @@ fn a_failed_write_is_told(rt: HostRuntime) -> Result<(), Fail> {
     let y = two(rt.alloc(), Frac::of(0, 1), Frac::of(0, 1))?;
     let report = Report {
         outcome: Outcome::Infeasible { y },
+        basis: None,
         log: None,
     };
     let mut sink = MemSink::new(rt.alloc(), 1000, vec![in rt.alloc(); 2]?)?;

@@ -19,7 +19,12 @@ loop-level-preserved c =
     let twice = level_doubles level in
     let some = pow_positive level in
     let inner : k < 2 ^ c.args.height = omega (arith, inv.below, level_below c.args.height level (omega arith)) in
-    let set : is_set nodes next ≡ true = elim c.if-nodes-k.branch [ then-nodes-k w ↦ ap (is_set nodes) w.k-is ∙ w.if-nodes-k.true | else-nodes-k w ↦ ap (is_set nodes) w.k-is ∙ right_set nodes (2 ^ c.args.height) tree.joined k (omega (arith, inv.from)) inner inv.set w.if-nodes-k.false ] in
+    let set : is_set nodes next ≡ true = elim c.if-nodes-k.branch [
+      | then-nodes-k w ↦ ap (is_set nodes) w.k-is
+          ∙ w.if-nodes-k.true
+      | else-nodes-k w ↦ ap (is_set nodes) w.k-is ∙ right_set nodes (2 ^ c.args.height) tree.joined k
+          (omega (arith, inv.from)) inner inv.set w.if-nodes-k.false
+    ] in
     let which : (next ≡ 2 * k) ⊎ ((next ≡ 2 * k + 1) × (is_set nodes (2 * k) ≡ false)) = elim c.if-nodes-k.branch [ then-nodes-k w ↦ inl w.k-is | else-nodes-k w ↦ inr (w.k-is, w.if-nodes-k.false) ] in
     record {
       from = omega (arith, twice, inv.from);

@@ -16,7 +16,7 @@ use Rattle.mps_reader.specs.declared.draft.Draft.{Draft}
 use Rattle.mps_reader.specs.declared.faults.DeckFault.{DeckFault}
 use Rattle.mps_reader.specs.declared.faults.DeckFault.TheVariants as fault
 use Rattle.mps_reader.specs.Faults.{text_fault}
-use Rattle.mps_reader.specs.Inner.Standing.{Stands}
+use Rattle.mps_reader.specs.Inner.Standing.{IsDraftOf}
 
 -- ── one line ──
 
@@ -39,7 +39,7 @@ IsFoundAt n judged fault = IfSome (text_fault fault) (λ first. (found : LineFau
 
 -- the draft stands for what the line made of the deck so far
 abbrev pub IsTaken : Result DeckSoFar LineFault → Draft → Type 0
-IsTaken judged new = (after : DeckSoFar) × (judged ≡ Ok after) × Stands new after
+IsTaken judged new = (after : DeckSoFar) × (judged ≡ Ok after) × IsDraftOf new after
 
 -- what the line of a number makes of a draft
 abbrev pub TakesLine : ℕ → Result DeckSoFar LineFault → Draft → Result (Unit {0}) DeckFault → Type 0
@@ -66,7 +66,7 @@ pub record ReachedIn (first text : List ℕ) (left : Option (List ℕ)) (kept : 
 -- a reader and a draft have come so far in an input, whose first bytes were kept from the start
 pub record Reached (first : List ℕ) (text left : Option (List ℕ)) (reader : ReaderState) (draft : Draft) : Type 0 where
   pub so_far : DeckSoFar
-  pub stands : Stands draft so_far
+  pub stands : IsDraftOf draft so_far
   pub sound : reader.fault ≡ None
   pub within : reader.since ≤ byte_limit
   pub counted : reader.count ≤ reader.since

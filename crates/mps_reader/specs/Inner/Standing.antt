@@ -86,7 +86,7 @@ IsOrdered (section ∷ begun) = (may_begin section begun ≡ true) × IsOrdered 
 -- ── the draft ──
 
 -- the draft is what the cards have come to
-pub record Stands (draft : Draft) (s : DeckSoFar) : Type 0 where
+pub record IsDraftOf (draft : Draft) (s : DeckSoFar) : Type 0 where
   pub begun : s.begun ≡ draft.begun.items
   pub deck : s.deck ≡ deck_with draft.deck draft.free_rows.keys draft.bounds.items
   pub free_rows : s.free_rows ≡ draft.free_rows.keys
@@ -142,5 +142,5 @@ IsFound judged (Some fault) = judged ≡ Err fault
 
 -- the draft took what was judged, or the refusal is the fault that was found
 abbrev pub Judged : Result DeckSoFar LineFault → Draft → Result (Unit {0}) Refusal → Type 0
-Judged judged new (Ok u) = (after : DeckSoFar) × (judged ≡ Ok after) × Stands new after
+Judged judged new (Ok u) = (after : DeckSoFar) × (judged ≡ Ok after) × IsDraftOf new after
 Judged judged new (Err refusal) = IsFound judged (line_fault refusal)

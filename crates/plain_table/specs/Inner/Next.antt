@@ -1,5 +1,5 @@
 -- What the parts of the search for what comes next answer.
-use Rattle.std.specs.Prelude.{◌≡◌, ◌≢◌, ℕ, List, Option, Some}
+use Rattle.std.specs.Prelude.{◌≡◌, ◌≢◌, ℕ, List, Some}
 use Rattle.lp_model.specs.declared.Entry.TheVariants.{Flip, Swap}
 use Rattle.lp_model.specs.declared.Place.{Place}
 use Rattle.rational.specs.Rational.{ℚ, zero_ℚ}
@@ -25,13 +25,9 @@ StandsOff inst s β p = IsArtificial inst (basic s p) × (at β p ≢ zero_ℚ)
 abbrev pub DecidesAt : Instance → Plain → ℕ → Leave → Type 0
 DecidesAt inst t q = Decides inst t.state q (direction (at t.costs q)) t.values (column inst t q)
 
--- the place of the first distance or ratio that does not fit the width, in the step under number k of column q with the reduced cost d, the basic values β and the column α
-abbrev pub first_ratio : ℕ → Instance → ℕ → State → ℕ → ℚ → List ℚ → List ℚ → Option Place
-first_ratio w inst k s q d β α = first_unfit w (ratio_listing inst k s q (direction d) β α)
-
 -- the first distance or ratio of the step of column q that does not fit the width stands here
 abbrev pub HasUnfitRatio : ℕ → Instance → Plain → ℕ → Place → Type 0
-HasUnfitRatio w inst t q here = first_ratio w inst t.number t.state q (at t.costs q) t.values (column inst t q) ≡ Some here
+HasUnfitRatio w inst t q here = first_unfit w (ratio_listing inst t.number t.state q (direction (at t.costs q)) t.values (column inst t q)) ≡ Some here
 
 -- what comes next where that limit decides the step of column q
 abbrev pub next_by : ℕ → Leave → Next

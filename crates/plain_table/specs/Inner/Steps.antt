@@ -15,7 +15,7 @@ use Rattle.lp_run.specs.Step.{IsNext, Leaves, Limit, direction}
 use Rattle.lp_run.specs.Tableau.{table_column}
 use Rattle.plain_table.specs.declared.motion.Motion.{Motion}
 use Rattle.plain_table.specs.Plain.{Plain, Stands}
-use Rattle.plain_table.specs.Inner.Rows.{ArePicked, AreWide}
+use Rattle.plain_table.specs.Inner.Rows.{AreTaken, AreWide}
 
 -- the table of these parts
 abbrev pub table_of : State → List (List ℚ) → List ℚ → List ℚ → ℕ → Plain
@@ -49,7 +49,7 @@ abbrev pub StepsTo : Instance → Plain → Entry → Plain → Type 0
 StepsTo inst t e t' = (log : List Entry) → Stands inst log t → Stands inst (log ++ e ∷ []) t'
 
 -- a swap of column q and position p leads to the rows that are taken over from those that are worked, with these basic values and reduced costs
-abbrev pub SwapsTo : Instance → Plain → ℕ → ℕ → List (List ℚ) → List ℚ → List ℚ → Type 0
-SwapsTo inst t q p out values costs =
-    (end : Side) (new : List (List ℚ)) → IsNext inst t.state (Swap q p end) → length new ≡ length t.rows → AreWide (length t.costs) new → ArePicked p q t.rows out new
+abbrev pub SwapsTo : Instance → Plain → ℕ → ℕ → List ℚ → List ℕ → List (List ℚ) → List ℚ → List ℚ → Type 0
+SwapsTo inst t q p by columns out values costs =
+    (end : Side) (new : List (List ℚ)) → IsNext inst t.state (Swap q p end) → length new ≡ length t.rows → AreWide (length t.costs) new → AreTaken p 0 q by columns t.rows out new
     → StepsTo inst t (Swap q p end) (table_of (after t.state (Swap q p end)) new values costs (t.number + 1))

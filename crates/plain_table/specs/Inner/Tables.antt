@@ -15,6 +15,7 @@ pub record IsSound (a : Inside) : Type 0 where
   pub spare_values : length a.spare_values.items ≡ length a.rows.items
   pub spare_costs : length a.spare_costs.items ≡ length a.costs.items
   pub pivot_row : length a.pivot_row.items ≡ length a.costs.items
+  pub support : length a.support.items ≡ length a.costs.items
   pub alpha : length a.alpha.items ≡ length a.rows.items
   pub few_rows : length a.rows.items < 2 ^ 32
   pub few_columns : length a.costs.items < 2 ^ 32

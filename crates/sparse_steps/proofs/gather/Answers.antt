@@ -22,7 +22,8 @@ returns-in_err-rest-clause-settled g c =
     let lt : c.loop-k.k < length column.pairs = omega arith in
     let below : p.0 < length c.args.v.now = omega (arith, row_within (length c.args.v.now) column.pairs c.loop-k.k p c.requires lt c.pair-i.ensures.value) in
     let item = item_read c.args.v.now p.0 c.index-v-i.result below c.index-v-i.is in
-    refused _ _ _ (λ x. x) (step_stops _ _ c.loop-k.invariant.width _ _ _ (gather_parts column.pairs c.loop-k.k p lt c.pair-i.ensures.value c.args.skip c.args.v.now c.loop-k.rest c.index-v-i.result item)
+    refused _ _ _ (λ x. x) (step_stops _ _ c.loop-k.invariant.width _ _ _ (gather_parts column.pairs c.loop-k.k p lt c.pair-i.ensures.value c.args.skip
+    c.args.v.now c.loop-k.rest c.index-v-i.result item)
     _ c.loop-k.invariant.left c.in_err-rest.ensures.settled) c.from_residual.ensures.1
 
 pub loop-k-preserved : goal.loop-k-preserved

@@ -36,7 +36,8 @@ returns-in_err-v-clause-settled g c =
     let lt : c.loop-k.k < length column.pairs = omega arith in
     let below : p.0 < length c.loop-k.v = omega (arith, row_within (length c.args.v.now) column.pairs c.loop-k.k p c.requires lt c.pair-i.ensures.value) in
     let item = item_read c.loop-k.v p.0 c.index-v-i.result below c.index-v-i.is in
-    refused _ _ _ (λ _. c.loop-k.v) (step_stops _ _ c.loop-k.invariant.width _ _ _ (subtract_parts column.pairs c.loop-k.k p lt c.pair-i.ensures.value c.args.skip c.args.x c.loop-k.v c.index-v-i.result item)
+    refused _ _ _ (λ _. c.loop-k.v) (step_stops _ _ c.loop-k.invariant.width _ _ _
+    (subtract_parts column.pairs c.loop-k.k p lt c.pair-i.ensures.value c.args.skip c.args.x c.loop-k.v c.index-v-i.result item)
     _ c.loop-k.invariant.left c.in_err-v.ensures.settled) c.from_residual.ensures.1
 
 pub loop-k-preserved : goal.loop-k-preserved

@@ -19,5 +19,6 @@ loop-j-preserved g c =
       unfit = c.in_default.ensures.unfit ∙ c.loop-j.invariant.unfit;
       work = work_next (g.A.Arith.work_count a.arith.now) (g.A.Arith.work_count c.loop-j.arith) (g.A.Arith.work_count c.stop.new.arith) (c.loop-j.j - a.from) (c.loop-j.j + 1 - a.from) m
           c.loop-j.invariant.work c.in_default.ensures.work (omega arith);
-      none = none_more (g.A.Arith.width a.arith.now) (g.A.Arith.width c.loop-j.arith) a.inst.now a.ticket.now a.from c.loop-j.j c.loop-j.invariant.width c.loop-j.invariant.none c.in_default.ensures.stops;
+      none = none_more (g.A.Arith.width a.arith.now) (g.A.Arith.width c.loop-j.arith) a.inst.now a.ticket.now a.from c.loop-j.j c.loop-j.invariant.width
+          c.loop-j.invariant.none c.in_default.ensures.stops;
     }

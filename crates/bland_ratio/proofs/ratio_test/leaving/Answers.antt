@@ -51,7 +51,8 @@ returns-in-Ok-own_limit-clause-decides g c =
     let ends : c.bounds.result ≡ bounds a.inst.now a.state.now.phase a.q = bounds_at a.inst.now a.state.now.phase c.phase.result a.q c.bounds.result c.bounds.ensures c.phase.ensures in
     subst (Decides a.inst.now a.state.now a.q t a.values.now a.alpha.now) (sym c.leave_of.ensures)
     (decided a.inst.now a.state.now a.q t a.values.now a.alpha.now w c.in-Ok-own_limit.own c.earlier.result (option_map (limit_of a.q) c.loop-p.best)
-    (settle-same (g.A.Arith.width c.loop-p.arith) _ _ (own_work c.bounds.result a.q) (Some c.in-Ok-own_limit.own) (sym c.loop-p.invariant.width) (ap (λ i. own_work i a.q) (sym ends)) c.in-Ok-own_limit.ensures.settled)
+    (settle-same (g.A.Arith.width c.loop-p.arith) _ _ (own_work c.bounds.result a.q) (Some c.in-Ok-own_limit.own) (sym c.loop-p.invariant.width)
+    (ap (λ i. own_work i a.q) (sym ends)) c.in-Ok-own_limit.ensures.settled)
     (subst (λ p. IsLeast (LimitBefore a.inst.now a.state.now a.q t a.values.now a.alpha.now w p) (option_map (limit_of a.q) c.loop-p.best)) ended c.loop-p.invariant.best)
     (c.earlier.ensures a.q))
 
@@ -64,7 +65,8 @@ returns-in-Ok-own_limit-clause-fits g c =
     let ends : c.bounds.result ≡ bounds a.inst.now a.state.now.phase a.q = bounds_at a.inst.now a.state.now.phase c.phase.result a.q c.bounds.result c.bounds.ensures c.phase.ensures in
     all_fit a.inst.now a.state.now a.q t a.values.now a.alpha.now w c.in-Ok-own_limit.own
     (subst (SettleBefore a.inst.now a.state.now a.q t a.values.now a.alpha.now w) ended c.loop-p.invariant.settled)
-    (settle-same (g.A.Arith.width c.loop-p.arith) _ _ (own_work c.bounds.result a.q) (Some c.in-Ok-own_limit.own) (sym c.loop-p.invariant.width) (ap (λ i. own_work i a.q) (sym ends)) c.in-Ok-own_limit.ensures.settled)
+    (settle-same (g.A.Arith.width c.loop-p.arith) _ _ (own_work c.bounds.result a.q) (Some c.in-Ok-own_limit.own) (sym c.loop-p.invariant.width)
+    (ap (λ i. own_work i a.q) (sym ends)) c.in-Ok-own_limit.ensures.settled)
 
 pub returns-in-Err-own_limit-clause-unfit : goal.returns-in-Err-own_limit-clause-unfit
 returns-in-Err-own_limit-clause-unfit g c =

@@ -23,14 +23,20 @@ items-smaller g c =
     let xs = list_at c.args.self.now c.args.count in
     let h = subst (IsCopied c.args.chain.now c.items.chain c.args.count xs) c.in-Some.is c.items.invariant in
     let next_is = c.next-next.ensures.next c.args.count h.next_in in
-    omega (arith, rest-shorter c.in-Some.i xs (c.first-next.ensures.chained.once c.args.count) h.next_in, ap (λ (o : Option ℕ). length (rest o xs)) next_is, ap (λ (o : Option ℕ). length (rest o xs)) c.in-Some.is)
+    omega (
+      arith,
+      rest-shorter c.in-Some.i xs (c.first-next.ensures.chained.once c.args.count) h.next_in,
+      ap (λ (o : Option ℕ). length (rest o xs)) next_is,
+      ap (λ (o : Option ℕ). length (rest o xs)) c.in-Some.is,
+    )
 
 pub items-preserved : goal.items-preserved
 items-preserved g c =
     let xs = list_at c.args.self.now c.args.count in
     let h = subst (IsCopied c.args.chain.now c.items.chain c.args.count xs) c.in-Some.is c.items.invariant in
     let next_is = c.next-next.ensures.next c.args.count h.next_in in
-    IsCopied-more c.args.chain.now c.items.chain c.args.count xs c.in-Some.i c.requires.there (c.first-next.ensures.chained.once c.args.count) h c.place.new.self c.next-next.result c.place.ensures.placed next_is
+    IsCopied-more c.args.chain.now c.items.chain c.args.count xs c.in-Some.i c.requires.there
+    (c.first-next.ensures.chained.once c.args.count) h c.place.new.self c.next-next.result c.place.ensures.placed next_is
     (subst (λ (o : Option ℕ). IfSome o (λ x. Contains xs x)) (sym next_is) (IfSome-after c.in-Some.i xs))
 
 pub returns : goal.returns

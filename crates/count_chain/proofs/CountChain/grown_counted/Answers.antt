@@ -27,7 +27,8 @@ copy_list-requires-clause-loose g c = λ i held.
 
 pub loop-count-preserved : goal.loop-count-preserved
 loop-count-preserved g c =
-    AreCopied-more c.args.self.now c.loop-count.chain c.copy_list.new.chain c.args.items c.loop-count.count (omega (arith, sizes c.self.inside.links c.self.inside.items c.self.inside.counts _ c.self.view_is)) c.loop-count.invariant c.copy_list.ensures
+    AreCopied-more c.args.self.now c.loop-count.chain c.copy_list.new.chain c.args.items c.loop-count.count
+    (omega (arith, sizes c.self.inside.links c.self.inside.items c.self.inside.counts _ c.self.view_is)) c.loop-count.invariant c.copy_list.ensures
 
 grown : (g : _) (c : After-drop-steps-inside-3 g) → c.loop-count.chain ≡ record { items = c.args.items; lists = c.args.self.now.lists }
 grown g c =

@@ -10,7 +10,8 @@ returns-then-node-i-clause-next c = λ count held.
     grind (arith, says)
 
 pub returns-then-node-i-clause-placed : goal.returns-then-node-i-clause-placed
-returns-then-node-i-clause-placed c = λ _. other_says c.self.inside.links c.self.inside.items c.self.inside.counts c.args.i _ c.self.invariant c.self.view_is c.requires (λ e. c.if-node-i.true (c.next-node.ensures ∙ e))
+returns-then-node-i-clause-placed c = λ _. other_says c.self.inside.links c.self.inside.items c.self.inside.counts c.args.i _ c.self.invariant c.self.view_is
+    c.requires (λ e. c.if-node-i.true (c.next-node.ensures ∙ e))
 
 pub returns-then-node-i-clause-chained : goal.returns-then-node-i-clause-chained
 returns-then-node-i-clause-chained c =

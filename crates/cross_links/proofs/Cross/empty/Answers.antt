@@ -11,5 +11,6 @@ invariant_of-result g c =
     let cheap = c.in_ok-new-2.ensures in
     record {
       held = c.in_ok-new.ensures.held;
-      cheap = IsCheap-new c.args.m (matrix_of c.in_ok-new.field-0) c.in_ok-new-2.field-0 (ap (λ (a : Matrix). a.size) made) (ap (λ (a : Matrix). a.rows) made) (ap (λ (a : Matrix). a.cols) made) cheap.singles_len cheap.singles cheap.lone cheap.flagged;
+      cheap = IsCheap-new c.args.m (matrix_of c.in_ok-new.field-0) c.in_ok-new-2.field-0 (ap (λ (a : Matrix). a.size) made) (ap (λ (a : Matrix). a.rows) made)
+          (ap (λ (a : Matrix). a.cols) made) cheap.singles_len cheap.singles cheap.lone cheap.flagged;
     }

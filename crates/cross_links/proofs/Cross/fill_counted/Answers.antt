@@ -21,5 +21,10 @@ invariant_of-self-2 g c =
     let sees = ap (λ (x : Matrix). x.size) c.self.view_is in
     record {
       held = c.in_ok-link.ensures.held;
-      cheap = IsCheap-followed a b e.0 e.1 c.self.inside.cheap c.self.invariant.cheap c.take.new.self c.put.new.self _ c.lone_row-before.result c.lone_row-after.result c.is_single.result filled.size (omega (arith, c.requires.row, sees)) (omega (arith, c.requires.col, sees)) (row_other a b c.in_ok-link.link e c.self.invariant.held.matrix filled) (lone_stays a b c.in_ok-link.link e c.self.invariant.held.matrix filled) c.lone_row-after.ensures.row c.lone_row-before.ensures.lone c.lone_row-after.ensures.lone c.is_single.ensures c.take.ensures.lone c.take.ensures.singles c.put.ensures.lone c.put.ensures.singles c.put.ensures.flagged c.set.ensures refl refl;
+      cheap = IsCheap-followed a b e.0 e.1 c.self.inside.cheap c.self.invariant.cheap c.take.new.self c.put.new.self _ c.lone_row-before.result
+          c.lone_row-after.result c.is_single.result filled.size (omega (arith, c.requires.row, sees)) (omega (arith, c.requires.col, sees))
+          (row_other a b c.in_ok-link.link e c.self.invariant.held.matrix filled)
+          (lone_stays a b c.in_ok-link.link e c.self.invariant.held.matrix filled) c.lone_row-after.ensures.row c.lone_row-before.ensures.lone
+          c.lone_row-after.ensures.lone c.is_single.ensures c.take.ensures.lone c.take.ensures.singles c.put.ensures.lone c.put.ensures.singles
+          c.put.ensures.flagged c.set.ensures refl refl;
     }

@@ -15,7 +15,8 @@ loop-c-preserved c =
     record {
       size = loaded.size ∙ inv.size;
       done = λ j lt. ⊎_elim
-          (λ (e : j ≡ i). ap (col_pairs c.load_column.new.self) e ∙ loaded.col ∙ sym (column_pairs columns i column (omega (arith, c.requires.columns)) c.index-columns-c.is) ∙ ap (λ (k : ℕ). get_or (lists_of columns) k []) (sym e))
+          (λ (e : j ≡ i). ap (col_pairs c.load_column.new.self) e ∙ loaded.col ∙ sym
+          (column_pairs columns i column (omega (arith, c.requires.columns)) c.index-columns-c.is) ∙ ap (λ (k : ℕ). get_or (lists_of columns) k []) (sym e))
           (λ (ne : j ≢ i). loaded.pairs j ne ∙ inv.done j (omega arith))
           (cases_eq j i);
       left = λ j le. let ne : j ≢ i = λ e. omega arith in loaded.others j ne ∙ inv.left j (omega arith);

@@ -30,7 +30,8 @@ pub fill-requires-clause-absent : goal.fill-requires-clause-absent
 fill-requires-clause-absent c =
     let ps = c.args.column.now.pairs in
     absent_from c.loop-k.self c.args.c c.pair-r.result.0 c.loop-k.invariant.matrix
-    (ap (λ (q : List (ℕ × ℚ)). value_at q c.pair-r.result.0) c.loop-k.invariant.pairs ∙ absent_before c.args.column.now.length 0 ps c.loop-k.k c.pair-r.result c.count-k-end.ensures.rising c.pair-r.ensures.value)
+    (ap (λ (q : List (ℕ × ℚ)). value_at q c.pair-r.result.0) c.loop-k.invariant.pairs
+    ∙ absent_before c.args.column.now.length 0 ps c.loop-k.k c.pair-r.result c.count-k-end.ensures.rising c.pair-r.ensures.value)
 
 pub loop-k-preserved : goal.loop-k-preserved
 loop-k-preserved c =

@@ -11,5 +11,6 @@ invariant_of-self g c =
     let is = c.retire_col.ensures.removed in
     record {
       held = c.retire_col.ensures.held;
-      cheap = IsCheap-same (matrix_of c.self.inside.table) (matrix_of c.retire_col.new.self) c.self.inside.cheap c.self.invariant.cheap (ap (λ (a : Matrix). a.size) is) (ap (λ (a : Matrix). a.rows) is) (λ d. ap (λ (a : Matrix). lone_row a d) is);
+      cheap = IsCheap-same (matrix_of c.self.inside.table) (matrix_of c.retire_col.new.self) c.self.inside.cheap c.self.invariant.cheap
+          (ap (λ (a : Matrix). a.size) is) (ap (λ (a : Matrix). a.rows) is) (λ d. ap (λ (a : Matrix). lone_row a d) is);
     }

@@ -22,5 +22,10 @@ invariant_of-self g c =
     let is = c.cancel.ensures.cancelled in
     record {
       held = c.cancel.ensures.held;
-      cheap = IsCheap-followed a b e.0 e.1 c.self.inside.cheap c.self.invariant.cheap c.take.new.self c.put.new.self _ c.lone_row-before.result c.lone_row-after.result c.is_single.result (ap (λ (x : Matrix). x.size) is) (entry_row_below t held c.args.link some e c.entry-r.ensures) (entry_col_below t held c.args.link some e c.entry-r.ensures) (row_left a b c.args.link e held.matrix c.entry-r.ensures is) (lone_left a b c.args.link e held.matrix c.entry-r.ensures is) c.lone_row-after.ensures.row c.lone_row-before.ensures.lone c.lone_row-after.ensures.lone c.is_single.ensures c.take.ensures.lone c.take.ensures.singles c.put.ensures.lone c.put.ensures.singles c.put.ensures.flagged c.set.ensures refl refl;
+      cheap = IsCheap-followed a b e.0 e.1 c.self.inside.cheap c.self.invariant.cheap c.take.new.self c.put.new.self _ c.lone_row-before.result
+          c.lone_row-after.result c.is_single.result (ap (λ (x : Matrix). x.size) is) (entry_row_below t held c.args.link some e c.entry-r.ensures)
+          (entry_col_below t held c.args.link some e c.entry-r.ensures) (row_left a b c.args.link e held.matrix c.entry-r.ensures is)
+          (lone_left a b c.args.link e held.matrix c.entry-r.ensures is) c.lone_row-after.ensures.row c.lone_row-before.ensures.lone
+          c.lone_row-after.ensures.lone c.is_single.ensures c.take.ensures.lone c.take.ensures.singles c.put.ensures.lone c.put.ensures.singles
+          c.put.ensures.flagged c.set.ensures refl refl;
     }

@@ -8,5 +8,6 @@ use Rattle.cross_links.proofs.pivot.best_by_count.Given as goal
 abbrev pub invariant-loop-count : goal.invariant-loop-count
 invariant-loop-count l = record {
   link : IsLinkIfSome (matrix_of l.table) l.best;
-  covers : (k : ℕ) → IsLink (matrix_of l.table) k → (length (row (matrix_of l.table) (row_of (matrix_of l.table) k)) < l.count) ⊎ (length (col (matrix_of l.table) (col_of (matrix_of l.table) k)) < l.count) → Covers (matrix_of l.table) l.best k;
+  covers : (k : ℕ) → IsLink (matrix_of l.table) k → (length (row (matrix_of l.table) (row_of (matrix_of l.table) k)) < l.count)
+      ⊎ (length (col (matrix_of l.table) (col_of (matrix_of l.table) k)) < l.count) → Covers (matrix_of l.table) l.best k;
 }

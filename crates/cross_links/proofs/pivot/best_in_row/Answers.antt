@@ -38,7 +38,8 @@ entries-preserved c =
     let found = c.better-best.ensures in
     record {
       link = found.link;
-      walked = Walked-more _ _ _ c.entries.invariant.walked c.in-Some.link c.in-Some.is c.next-next.result (Covers a c.better-best.result) (c.requires.held.matrix.rows.once c.args.r) (c.next-next.ensures.next c.args.r held) (λ k h. found.kept k h) found.covers;
+      walked = Walked-more _ _ _ c.entries.invariant.walked c.in-Some.link c.in-Some.is c.next-next.result (Covers a c.better-best.result)
+          (c.requires.held.matrix.rows.once c.args.r) (c.next-next.ensures.next c.args.r held) (λ k h. found.kept k h) found.covers;
       kept = λ k h. found.kept k (c.entries.invariant.kept k h);
     }
 

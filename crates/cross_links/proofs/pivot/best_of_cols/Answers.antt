@@ -37,7 +37,9 @@ bucket-preserved c =
     let found = c.best_in_col-best.ensures in
     record {
       link = found.link;
-      walked = Walked-more _ _ _ c.bucket.invariant.walked c.in-Some.c c.in-Some.is c.next-next.result (λ i. (k : ℕ) → Contains (col a i) k → Covers a c.best_in_col-best.result k) (c.first-next.ensures.chained.once c.args.count) (c.next-next.ensures.next c.args.count held) (λ i all k in_i. found.kept k (all k in_i)) found.covers;
+      walked = Walked-more _ _ _ c.bucket.invariant.walked c.in-Some.c c.in-Some.is c.next-next.result
+          (λ i. (k : ℕ) → Contains (col a i) k → Covers a c.best_in_col-best.result k) (c.first-next.ensures.chained.once c.args.count)
+          (c.next-next.ensures.next c.args.count held) (λ i all k in_i. found.kept k (all k in_i)) found.covers;
       kept = λ k h. found.kept k (c.bucket.invariant.kept k h);
     }
 

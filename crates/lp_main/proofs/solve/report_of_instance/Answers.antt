@@ -1,20 +1,41 @@
-use Rattle.std.proofs.Common.{refl, subst}
+use Rattle.std.proofs.Common.{subst, sym}
+use Rattle.bland_laws.proofs.OfDeck.{well_formed}
 use Rattle.crew.specs.Answers.{IsCause}
-use Rattle.lp_main.specs.Serves.{budget}
-use Rattle.lp_main.proofs.Reporting.{budget_cause, overflow_cause, report_is}
+use Rattle.lp_run.specs.Instance.{IsWellFormed}
+use Rattle.lp_main.specs.Solves.{IsReportCause}
+use Rattle.lp_main.specs.declared.refusal.Refusal.TheVariants as refusal
+use Rattle.lp_main.proofs.Reporting.{budget_cause, closed_run, overflow_cause, report_is, report_or_memory}
 use Rattle.lp_main.proofs.solve.report_of_instance.Goals as goal
 
+pub report_of_closed-requires-clause-formed : goal.report_of_closed-requires-clause-formed
+report_of_closed-requires-clause-formed g c = subst IsWellFormed (sym c.requires.instance) (well_formed c.args.deck.now c.requires.deck)
+
+pub report_of_closed-requires-clause-run : goal.report_of_closed-requires-clause-run
+report_of_closed-requires-clause-run g c = closed_run c.args.inst.now c.in-Ok.closed _ c.in-Ok.ensures.solves
+
 pub returns-in-Ok-clause-report : goal.returns-in-Ok-clause-report
-returns-in-Ok-clause-report g c = report_is c.args.deck.now c.requires.deck c.args.inst.now c.requires.instance c.in-Ok.closed _ c.in-Ok.ensures.solves refl refl
+returns-in-Ok-clause-report g c =
+    report_is c.args.deck.now c.requires.deck c.args.asked c.args.inst.now c.requires.instance c.in-Ok.closed c.in-Ok.ensures.solves c.report_of_closed.result c.report_of_closed.ensures
+
+pub returns-in-Ok-clause-cause : goal.returns-in-Ok-clause-cause
+returns-in-Ok-clause-cause g c = report_or_memory c.args.asked c.args.inst.now c.in-Ok.closed (g.A.Arith.width c.args.arith.now) c.args.deck.now c.report_of_closed.result c.report_of_closed.ensures
 
 pub returns-in-Err-Overflow-clause-cause : goal.returns-in-Err-Overflow-clause-cause
 returns-in-Err-Overflow-clause-cause g c =
     let w = g.A.Arith.width c.args.arith.now in
+    let d = c.args.deck.now in
+    let asked = c.args.asked in
     let inst = c.args.inst.now in
-    overflow_cause c.args.deck.now c.requires.deck w inst c.requires.instance c.in-Err-Overflow.place (subst (IsCause w inst budget) c.in-Err-Overflow.field-0-is c.in-Err-Overflow.ensures.solves)
+    subst (λ here. IsReportCause asked w d (refusal.Overflow here)) (sym c.in-Err-Overflow.place-is)
+    (overflow_cause d c.requires.deck asked w inst c.requires.instance c.in-Err-Overflow.place
+    (subst (IsCause w inst asked.budget) c.in-Err-Overflow.field-0-is c.in-Err-Overflow.ensures.solves))
 
 pub returns-in-Err-Budget-clause-cause : goal.returns-in-Err-Budget-clause-cause
 returns-in-Err-Budget-clause-cause g c =
     let w = g.A.Arith.width c.args.arith.now in
+    let d = c.args.deck.now in
+    let asked = c.args.asked in
     let inst = c.args.inst.now in
-    budget_cause c.args.deck.now c.requires.deck w inst c.requires.instance c.in-Err-Budget.moves (subst (IsCause w inst budget) c.in-Err-Budget.field-0-is c.in-Err-Budget.ensures.solves)
+    subst (λ n. IsReportCause asked w d (refusal.Budget n)) (sym c.in-Err-Budget.moves-is)
+    (budget_cause d c.requires.deck asked w inst c.requires.instance c.in-Err-Budget.moves
+    (subst (IsCause w inst asked.budget) c.in-Err-Budget.field-0-is c.in-Err-Budget.ensures.solves))

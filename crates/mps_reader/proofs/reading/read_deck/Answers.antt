@@ -29,7 +29,9 @@ returns-in-Err-clause-needed g c = needed_next _ _ _ _ c.lines.lines c.lines.dra
 pub returns-in-Err-clause-read : goal.returns-in-Err-clause-read
 returns-in-Err-clause-read g c = λ is.
     let f = err_is _ _ _ is in
-    read_failed _ _ _ c.lines.lines c.lines.draft c.lines.invariant.reached _ _ _ (subst (IsLineCause c.lines.lines (g.S.Source.remaining c.lines.source) (g.S.Source.remaining c.next_line.new.source) (g.S.Source.fault_count c.lines.source) (g.S.Source.fault_count c.next_line.new.source)) f c.in-Err.ensures.fault)
+    read_failed _ _ _ c.lines.lines c.lines.draft c.lines.invariant.reached _ _ _
+    (subst (IsLineCause c.lines.lines (g.S.Source.remaining c.lines.source) (g.S.Source.remaining c.next_line.new.source)
+    (g.S.Source.fault_count c.lines.source) (g.S.Source.fault_count c.next_line.new.source)) f c.in-Err.ensures.fault)
 
 pub returns-in-Err-clause-stays : goal.returns-in-Err-clause-stays
 returns-in-Err-clause-stays g c = λ other. c.in-Err.ensures.stays (λ is. other (ap Err (err_is _ _ _ is))) ∙ c.lines.invariant.stays
@@ -38,34 +40,46 @@ pub take_line-requires-clause-columns : goal.take_line-requires-clause-columns
 take_line-requires-clause-columns g c = has_columns c.lines.lines c.next_line.new.lines _ _ c.in-Ok-next_line.line c.in-Ok-next_line.ensures.line
 
 pub returns-in-Err-take_line-clause-rest : goal.returns-in-Err-take_line-clause-rest
-returns-in-Err-take_line-clause-rest g c = λ sound. lines_next _ _ _ c.lines.lines c.lines.draft c.lines.invariant.reached c.next_line.new.lines _ c.take_line.new.draft _ c.in-Ok-next_line.ensures.line
+returns-in-Err-take_line-clause-rest g c = λ sound. lines_next _ _ _ c.lines.lines c.lines.draft c.lines.invariant.reached c.next_line.new.lines _
+    c.take_line.new.draft _ c.in-Ok-next_line.ensures.line
 
 pub returns-in-Err-take_line-clause-after : goal.returns-in-Err-take_line-clause-after
-returns-in-Err-take_line-clause-after g c = stands_behind _ _ _ c.lines.lines c.lines.draft c.lines.invariant.reached c.next_line.new.lines _ c.take_line.new.draft _ c.in-Ok-next_line.ensures.line _ c.in-Err-take_line.fault c.in-Err-take_line.ensures.taken c.in-Err-take_line.ensures.no_read
+returns-in-Err-take_line-clause-after g c = stands_behind _ _ _ c.lines.lines c.lines.draft c.lines.invariant.reached c.next_line.new.lines _
+    c.take_line.new.draft _ c.in-Ok-next_line.ensures.line _ c.in-Err-take_line.fault c.in-Err-take_line.ensures.taken c.in-Err-take_line.ensures.no_read
 
 pub returns-in-Err-take_line-clause-fault : goal.returns-in-Err-take_line-clause-fault
-returns-in-Err-take_line-clause-fault g c = not_taken _ _ _ c.lines.lines c.lines.draft c.lines.invariant.reached c.next_line.new.lines _ c.take_line.new.draft _ c.in-Ok-next_line.ensures.line c.in-Err-take_line.fault c.in-Err-take_line.ensures.taken
+returns-in-Err-take_line-clause-fault g c = not_taken _ _ _ c.lines.lines c.lines.draft c.lines.invariant.reached c.next_line.new.lines _ c.take_line.new.draft
+    _ c.in-Ok-next_line.ensures.line c.in-Err-take_line.fault c.in-Err-take_line.ensures.taken
 
 pub returns-in-Err-take_line-clause-needed : goal.returns-in-Err-take_line-clause-needed
 returns-in-Err-take_line-clause-needed g c = needed_next _ _ _ _ c.lines.lines c.lines.draft c.lines.invariant.reached c.in-Ok-next_line.ensures.needed c.lines.invariant.needed
 
 pub into_deck-requires : goal.into_deck-requires
-into_deck-requires g c = next_stands _ _ _ c.lines.lines c.lines.draft c.lines.invariant.reached c.next_line.new.lines _ c.take_line.new.draft _ c.in-Ok-next_line.ensures.line c.in_default-take_line.ensures.taken
+into_deck-requires g c = next_stands _ _ _ c.lines.lines c.lines.draft c.lines.invariant.reached c.next_line.new.lines _ c.take_line.new.draft _
+    c.in-Ok-next_line.ensures.line c.in_default-take_line.ensures.taken
 
 pub returns-then-has_finished-clause-deck : goal.returns-then-has_finished-clause-deck
-returns-then-has_finished-clause-deck g c = deck_read _ _ _ c.lines.lines c.lines.draft c.lines.invariant.reached c.next_line.new.lines _ c.take_line.new.draft _ c.in-Ok-next_line.ensures.line c.in_default-take_line.ensures.taken c.has_finished.result c.has_finished.ensures c.if-has_finished.true c.into_deck.result c.into_deck.ensures.end
+returns-then-has_finished-clause-deck g c = deck_read _ _ _ c.lines.lines c.lines.draft c.lines.invariant.reached c.next_line.new.lines _ c.take_line.new.draft
+    _ c.in-Ok-next_line.ensures.line c.in_default-take_line.ensures.taken c.has_finished.result c.has_finished.ensures c.if-has_finished.true c.into_deck.result
+    c.into_deck.ensures.end
 
 pub returns-then-has_finished-clause-rest : goal.returns-then-has_finished-clause-rest
-returns-then-has_finished-clause-rest g c = λ sound. lines_next _ _ _ c.lines.lines c.lines.draft c.lines.invariant.reached c.next_line.new.lines _ c.take_line.new.draft _ c.in-Ok-next_line.ensures.line
+returns-then-has_finished-clause-rest g c = λ sound. lines_next _ _ _ c.lines.lines c.lines.draft c.lines.invariant.reached c.next_line.new.lines _
+    c.take_line.new.draft _ c.in-Ok-next_line.ensures.line
 
 pub returns-then-has_finished-clause-after : goal.returns-then-has_finished-clause-after
-returns-then-has_finished-clause-after g c = stands_at_end _ _ _ c.lines.lines c.lines.draft c.lines.invariant.reached c.next_line.new.lines _ c.take_line.new.draft _ c.in-Ok-next_line.ensures.line c.in_default-take_line.ensures.taken c.into_deck.result c.into_deck.ensures.end c.into_deck.ensures.no_read
+returns-then-has_finished-clause-after g c = stands_at_end _ _ _ c.lines.lines c.lines.draft c.lines.invariant.reached c.next_line.new.lines _
+    c.take_line.new.draft _ c.in-Ok-next_line.ensures.line c.in_default-take_line.ensures.taken c.into_deck.result c.into_deck.ensures.end
+    c.into_deck.ensures.no_read
 
 pub returns-then-has_finished-clause-sound : goal.returns-then-has_finished-clause-sound
-returns-then-has_finished-clause-sound g c = still_sound _ _ _ c.lines.lines c.lines.draft c.lines.invariant.reached c.next_line.new.lines _ c.take_line.new.draft _ c.in-Ok-next_line.ensures.line c.into_deck.result
+returns-then-has_finished-clause-sound g c = still_sound _ _ _ c.lines.lines c.lines.draft c.lines.invariant.reached c.next_line.new.lines _
+    c.take_line.new.draft _ c.in-Ok-next_line.ensures.line c.into_deck.result
 
 pub returns-then-has_finished-clause-fault : goal.returns-then-has_finished-clause-fault
-returns-then-has_finished-clause-fault g c = end_refused _ _ _ c.lines.lines c.lines.draft c.lines.invariant.reached c.next_line.new.lines _ c.take_line.new.draft _ c.in-Ok-next_line.ensures.line c.in_default-take_line.ensures.taken c.has_finished.result c.has_finished.ensures c.if-has_finished.true c.into_deck.result c.into_deck.ensures.end
+returns-then-has_finished-clause-fault g c = end_refused _ _ _ c.lines.lines c.lines.draft c.lines.invariant.reached c.next_line.new.lines _
+    c.take_line.new.draft _ c.in-Ok-next_line.ensures.line c.in_default-take_line.ensures.taken c.has_finished.result c.has_finished.ensures
+    c.if-has_finished.true c.into_deck.result c.into_deck.ensures.end
 
 pub returns-then-has_finished-clause-needed : goal.returns-then-has_finished-clause-needed
 returns-then-has_finished-clause-needed g c = needed_next _ _ _ _ c.lines.lines c.lines.draft c.lines.invariant.reached c.in-Ok-next_line.ensures.needed c.lines.invariant.needed
@@ -75,7 +89,8 @@ lines-smaller g c = rises _ _ _ c.lines.lines c.lines.draft c.lines.invariant.re
 
 pub lines-preserved : goal.lines-preserved
 lines-preserved g c = record {
-  reached = reached_next _ _ _ c.lines.lines c.lines.draft c.lines.invariant.reached c.next_line.new.lines _ c.take_line.new.draft _ c.in-Ok-next_line.ensures.line c.in_default-take_line.ensures.taken c.has_finished.result c.has_finished.ensures c.if-has_finished.false;
+  reached = reached_next _ _ _ c.lines.lines c.lines.draft c.lines.invariant.reached c.next_line.new.lines _ c.take_line.new.draft _
+      c.in-Ok-next_line.ensures.line c.in_default-take_line.ensures.taken c.has_finished.result c.has_finished.ensures c.if-has_finished.false;
   needed = needed_next _ _ _ _ c.lines.lines c.lines.draft c.lines.invariant.reached c.in-Ok-next_line.ensures.needed c.lines.invariant.needed;
   stays = c.in-Ok-next_line.ensures.stays (λ is. cc) ∙ c.lines.invariant.stays;
 }

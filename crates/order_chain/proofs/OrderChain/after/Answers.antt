@@ -14,7 +14,9 @@ next-requires c =
 pub returns-clause-after : goal.returns-clause-after
 returns-clause-after c =
     subst (λ order. c.position.result ≡ after c.args.p order) c.self.view_is
-    (c.position.ensures.position ∙ ap (λ node. position_of node c.self.inside.len) c.next.ensures ∙ after_says c.self.inside.links c.self.inside.len c.self.invariant c.args.p (position_below c.self.inside.links c.self.inside.len c.args.p c.args.self.now c.self.invariant c.self.view_is c.requires))
+    (c.position.ensures.position ∙ ap (λ node. position_of node c.self.inside.len) c.next.ensures
+    ∙ after_says c.self.inside.links c.self.inside.len c.self.invariant c.args.p
+    (position_below c.self.inside.links c.self.inside.len c.args.p c.args.self.now c.self.invariant c.self.view_is c.requires))
 
 pub returns-clause-position : goal.returns-clause-position
 returns-clause-position c =

@@ -14,7 +14,9 @@ prev-requires c =
 pub returns-clause-before : goal.returns-clause-before
 returns-clause-before c =
     subst (λ order. c.position.result ≡ before c.args.p order) c.self.view_is
-    (c.position.ensures.position ∙ ap (λ node. position_of node c.self.inside.len) c.prev.ensures ∙ before_says c.self.inside.links c.self.inside.len c.self.invariant c.args.p (position_below c.self.inside.links c.self.inside.len c.args.p c.args.self.now c.self.invariant c.self.view_is c.requires))
+    (c.position.ensures.position ∙ ap (λ node. position_of node c.self.inside.len) c.prev.ensures
+    ∙ before_says c.self.inside.links c.self.inside.len c.self.invariant c.args.p
+    (position_below c.self.inside.links c.self.inside.len c.args.p c.args.self.now c.self.invariant c.self.view_is c.requires))
 
 pub returns-clause-position : goal.returns-clause-position
 returns-clause-position c =

@@ -1,48 +1,21 @@
--- The column is that of the table, and the ratio test decides as the listing says.
-use Rattle.std.proofs.Common.{◌<◌, length, sym, ◌∙◌, subst}
-use Rattle.plain_table.proofs.Motions.{column_read, motion_is, not_free, test_fits, test_unfit}
+-- The limit that decides says how far the column goes.
+use Rattle.std.proofs.Common.{◌<◌, length, refl, sym, subst}
+use Rattle.plain_table.specs.Inner.Steps.{test_listing}
+use Rattle.plain_table.proofs.Motions.{motion_is, not_free}
+use Rattle.plain_table.proofs.Parts.{judged_on}
 use Rattle.plain_table.proofs.motion.find_motion.Goals as goal
+
+pub returns-in_err-leave-clause-answer : goal.returns-in_err-leave-clause-answer
+returns-in_err-leave-clause-answer g c =
+    judged_on _ _ (test_listing c.args.inst.now c.args.number c.args.state.now c.args.rows.now c.args.values.now c.args.costs.now c.args.q) _ c.from_residual.result refl
+    c.in_err-leave.ensures.answer c.from_residual.ensures.1
 
 pub ratio_of-requires : goal.ratio_of-requires
 ratio_of-requires g c =
-    let inst = c.args.inst.now in
+    not_free c.args.inst.now c.args.state.now c.args.rows.now c.args.values.now c.args.costs.now c.args.q c.requires.limited.0 c.requires.limited.1 c.in_ok-leave.leave c.in_ok-leave.ensures.decides
+
+pub returns-clause-motion : goal.returns-clause-motion
+returns-clause-motion g c =
     let within : c.args.q < length c.args.costs.now = subst (λ n. c.args.q < n) (sym c.requires.costs) c.requires.column in
-    let is = column_read inst c.args.rows.now c.args.q c.read_column.new.out (c.read_column.auto.out ∙ c.requires.alpha) c.requires.rows c.read_column.ensures in
-    not_free inst c.args.state.now c.args.rows.now c.args.values.now c.args.costs.now c.args.q c.read_column.new.out is c.falls-down.result c.index-costs-q.result within
-    c.index-costs-q.is c.falls-down.ensures
-    c.requires.limited.0 c.requires.limited.1 c.in-Ok.leave c.in-Ok.ensures.decides
-
-pub returns-in-Ok-clause-answer : goal.returns-in-Ok-clause-answer
-returns-in-Ok-clause-answer g c =
-    let inst = c.args.inst.now in
-    let within : c.args.q < length c.args.costs.now = subst (λ n. c.args.q < n) (sym c.requires.costs) c.requires.column in
-    let is = column_read inst c.args.rows.now c.args.q c.read_column.new.out (c.read_column.auto.out ∙ c.requires.alpha) c.requires.rows c.read_column.ensures in
-    test_fits inst c.args.state.now c.args.rows.now c.args.values.now c.args.costs.now c.args.q c.read_column.new.out is c.falls-down.result c.index-costs-q.result within
-    c.index-costs-q.is c.falls-down.ensures
-    _ c.args.number c.in-Ok.ensures.fits
-
-pub returns-in-Ok-clause-motion : goal.returns-in-Ok-clause-motion
-returns-in-Ok-clause-motion g c =
-    let inst = c.args.inst.now in
-    let within : c.args.q < length c.args.costs.now = subst (λ n. c.args.q < n) (sym c.requires.costs) c.requires.column in
-    let is = column_read inst c.args.rows.now c.args.q c.read_column.new.out (c.read_column.auto.out ∙ c.requires.alpha) c.requires.rows c.read_column.ensures in
-    motion_is inst c.args.state.now c.args.rows.now c.args.values.now c.args.costs.now c.args.q c.read_column.new.out is c.falls-down.result c.index-costs-q.result within
-    c.index-costs-q.is c.falls-down.ensures
-    c.requires.limited.0 c.requires.limited.1 c.in-Ok.leave c.in-Ok.ensures.decides c.ratio_of.result c.ratio_of.ensures
-
-pub returns-in-Ok-clause-column : goal.returns-in-Ok-clause-column
-returns-in-Ok-clause-column g c =
-    column_read c.args.inst.now c.args.rows.now c.args.q c.read_column.new.out (c.read_column.auto.out ∙ c.requires.alpha) c.requires.rows c.read_column.ensures
-
-pub returns-in-Err-clause-answer : goal.returns-in-Err-clause-answer
-returns-in-Err-clause-answer g c =
-    let inst = c.args.inst.now in
-    let within : c.args.q < length c.args.costs.now = subst (λ n. c.args.q < n) (sym c.requires.costs) c.requires.column in
-    let is = column_read inst c.args.rows.now c.args.q c.read_column.new.out (c.read_column.auto.out ∙ c.requires.alpha) c.requires.rows c.read_column.ensures in
-    test_unfit inst c.args.state.now c.args.rows.now c.args.values.now c.args.costs.now c.args.q c.read_column.new.out is c.falls-down.result c.index-costs-q.result within
-    c.index-costs-q.is c.falls-down.ensures
-    _ c.args.number c.in-Err.refusal c.ratio_place.result c.ratio_place.ensures c.in-Err.ensures.unfit
-
-pub returns-in-Err-clause-column : goal.returns-in-Err-clause-column
-returns-in-Err-clause-column g c =
-    column_read c.args.inst.now c.args.rows.now c.args.q c.read_column.new.out (c.read_column.auto.out ∙ c.requires.alpha) c.requires.rows c.read_column.ensures
+    motion_is c.args.inst.now c.args.state.now c.args.rows.now c.args.values.now c.args.costs.now c.args.q c.requires.limited.0 c.requires.limited.1 c.in_ok-leave.leave
+    c.in_ok-leave.ensures.decides c.index-costs-q.result c.falls.result within c.index-costs-q.is c.falls.ensures c.ratio_of.result c.ratio_of.ensures

@@ -5,6 +5,7 @@ use Rattle.rational.specs.Sparse.{entry_at}
 use Rattle.rational.specs.Worked.{settle}
 use Rattle.rational.proofs.Loops.{all_worked, step_settles, step_stops}
 use Rattle.lp_run.specs.Instance.{start_value, structural, structural_count}
+use Rattle.sparse_steps.proofs.Steps.{refused}
 use Rattle.plain_table.specs.Inner.Costs.{factors_from, priced}
 use Rattle.plain_table.proofs.Pricing.{priced_end, priced_start, priced_step}
 use Rattle.plain_table.proofs.Residuals.{structural_bounds}
@@ -21,14 +22,17 @@ loop-j-init g c =
           ∙ priced_start (λ j. entry_at (structural inst j).entries c.args.row) (λ j. start_value (structural inst j).bounds) (structural_count inst) _);
     }
 
-pub returns-in-Err-clause-settled : goal.returns-in-Err-clause-settled
-returns-in-Err-clause-settled g c =
+pub returns-in_err-rest-clause-settled : goal.returns-in_err-rest-clause-settled
+returns-in_err-rest-clause-settled g c =
     let inst = c.args.inst.now in
     let j = c.loop-j.j in
     let within : j < structural_count inst = omega (arith, c.structurals-j-end.ensures.count) in
     let value = c.start_value-value.ensures ∙ ap (λ (i : Interval). start_value i) (c.bounds.ensures ∙ structural_bounds inst j within) in
-    step_stops _ _ c.loop-j.invariant.width _ _ _ (priced_step (λ j. entry_at (structural inst j).entries c.args.row) (λ j. start_value (structural inst j).bounds) j (structural_count inst) c.loop-j.rest _ _ within c.entry.ensures value)
-    _ c.loop-j.invariant.left c.in-Err.ensures.settled
+    refused _ _ _ (λ x. x)
+    (step_stops _ _ c.loop-j.invariant.width _ _ _ (priced_step (λ j. entry_at (structural inst j).entries c.args.row)
+    (λ j. start_value (structural inst j).bounds) j (structural_count inst) c.loop-j.rest _ _ within c.entry.ensures value)
+    _ c.loop-j.invariant.left c.in_err-rest.ensures.settled)
+    c.from_residual.ensures.1
 
 pub loop-j-preserved : goal.loop-j-preserved
 loop-j-preserved g c =
@@ -38,12 +42,14 @@ loop-j-preserved g c =
     let value = c.start_value-value.ensures ∙ ap (λ (i : Interval). start_value i) (c.bounds.ensures ∙ structural_bounds inst j within) in
     record {
       width = c.less_product.ensures.width ∙ c.loop-j.invariant.width;
-      unfit = c.in-Ok.ensures.unfit ∙ c.loop-j.invariant.unfit;
-      left = step_settles _ _ c.loop-j.invariant.width _ _ _ (priced_step (λ j. entry_at (structural inst j).entries c.args.row) (λ j. start_value (structural inst j).bounds) j (structural_count inst) c.loop-j.rest _ _ within c.entry.ensures value)
-          _ c.loop-j.invariant.left _ c.in-Ok.ensures.settled;
+      unfit = c.in_ok-rest.ensures.unfit ∙ c.loop-j.invariant.unfit;
+      left = step_settles _ _ c.loop-j.invariant.width _ _ _ (priced_step (λ j. entry_at (structural inst j).entries c.args.row)
+          (λ j. start_value (structural inst j).bounds) j (structural_count inst) c.loop-j.rest _ _ within c.entry.ensures value)
+          _ c.loop-j.invariant.left _ c.in_ok-rest.ensures.settled;
     }
 
 pub returns-clause-settled : goal.returns-clause-settled
 returns-clause-settled g c =
     let inst = c.args.inst.now in
-    all_worked _ _ _ _ (priced_end (λ j. entry_at (structural inst j).entries c.args.row) (λ j. start_value (structural inst j).bounds) c.loop-j.j (structural_count inst) c.loop-j.rest (omega (arith, c.structurals-j-end.ensures.count))) c.loop-j.invariant.left
+    all_worked _ _ _ _ (priced_end (λ j. entry_at (structural inst j).entries c.args.row) (λ j. start_value (structural inst j).bounds) c.loop-j.j
+    (structural_count inst) c.loop-j.rest (omega (arith, c.structurals-j-end.ensures.count))) c.loop-j.invariant.left

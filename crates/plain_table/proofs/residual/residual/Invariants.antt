@@ -11,6 +11,7 @@ abbrev pub invariant-loop-j : goal.invariant-loop-j
 invariant-loop-j g l = record {
   width : g.A.Arith.width l.arith ≡ g.A.Arith.width l.fn.arith;
   unfit : g.A.Arith.unfit_count l.arith ≡ g.A.Arith.unfit_count l.fn.arith;
-  left : settle (g.A.Arith.width l.fn.arith) (priced l.rest (factors_from (λ j. entry_at (structural l.inst j).entries l.row) (λ j. start_value (structural l.inst j).bounds) l.j (structural_count l.inst - l.j)))
+  left : settle (g.A.Arith.width l.fn.arith) (priced l.rest (factors_from (λ j. entry_at (structural l.inst j).entries l.row)
+      (λ j. start_value (structural l.inst j).bounds) l.j (structural_count l.inst - l.j)))
       ≡ settle (g.A.Arith.width l.fn.arith) (residual_work l.inst l.row);
 }

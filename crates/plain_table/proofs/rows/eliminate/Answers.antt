@@ -1,8 +1,12 @@
--- The row of the pivot is the line, one without an entry stays, and another one is worked.
+-- The row of the pivot becomes the line, one without an entry stays, and another one is worked.
 use Rattle.std.proofs.Common.{sym, ◌∙◌}
 use Rattle.sparse_steps.proofs.Steps.{apart}
-use Rattle.plain_table.proofs.Eliminations.{eliminated_other, judged_other, none_lists, none_picked}
+use Rattle.plain_table.proofs.Eliminations.{judged_other, none_eliminates, none_lists, own_eliminates, row_eliminated}
 use Rattle.plain_table.proofs.rows.eliminate.Goals as goal
+
+pub returns-then-own-clause-eliminated : goal.returns-then-own-clause-eliminated
+returns-then-own-clause-eliminated g c =
+    own_eliminates (g.A.Arith.width c.args.arith.now) c.args.number c.args.index c.args.q c.args.own c.args.by.now c.args.row.now c.args.columns.now c.args.out.now c.if-own.true
 
 pub returns-then-is_zero-clause-answer : goal.returns-then-is_zero-clause-answer
 returns-then-is_zero-clause-answer g c =
@@ -10,7 +14,8 @@ returns-then-is_zero-clause-answer g c =
 
 pub returns-then-is_zero-clause-eliminated : goal.returns-then-is_zero-clause-eliminated
 returns-then-is_zero-clause-eliminated g c =
-    none_picked (g.A.Arith.width c.args.arith.now) c.args.number c.args.index c.args.q c.args.own c.args.by.now c.args.row.now c.args.out.now c.if-own.false (sym c.get-factor.ensures ∙ c.is_zero.ensures.0 c.if-is_zero.true)
+    none_eliminates (g.A.Arith.width c.args.arith.now) c.args.number c.args.index c.args.q c.args.own c.args.by.now c.args.row.now c.args.columns.now c.args.out.now c.if-own.false
+    (sym c.get-factor.ensures ∙ c.is_zero.ensures.0 c.if-is_zero.true)
 
 pub returns-clause-answer : goal.returns-clause-answer
 returns-clause-answer g c =
@@ -19,5 +24,6 @@ returns-clause-answer g c =
 
 pub returns-clause-eliminated : goal.returns-clause-eliminated
 returns-clause-eliminated g c =
-    eliminated_other (g.A.Arith.width c.args.arith.now) c.args.number c.args.index c.args.q c.args.own c.args.by.now c.args.row.now _ _ c.get-factor.result c.set_less.result c.if-own.false c.get-factor.ensures
-    (apart _ _ c.is_zero.ensures c.if-is_zero.false) c.as_slice.ensures c.requires.length c.set_less.ensures.less
+    row_eliminated (g.A.Arith.width c.args.arith.now) c.args.number c.args.index c.args.q c.args.own c.args.by.now c.args.row.now c.set_less.new.self c.as_slice.result.now c.args.columns.now
+    c.get-factor.result c.set_less.result c.requires.support c.if-own.false c.get-factor.ensures
+    (apart _ _ c.is_zero.ensures c.if-is_zero.false) c.as_slice.ensures c.set_less.ensures.less

@@ -1,8 +1,8 @@
 -- The ratio test and the pivot are what the swap lists, and the table after it stands.
-use Rattle.std.proofs.Common.{◌<◌, sym, ◌∙◌, subst}
-use Rattle.std.proofs.lemmas.Result.{on_ok_weaker}
+use Rattle.std.proofs.Common.{◌<◌, take, sym, ◌∙◌, subst}
 use Rattle.plain_table.specs.Inner.Steps.{table_of}
 use Rattle.plain_table.proofs.Steps.{swap_after, swap_column, swap_decided, swap_element, swap_judged, swap_position, swap_refused}
+use Rattle.plain_table.proofs.Tables.{if_ok_both}
 use Rattle.plain_table.proofs.swap.work_entering.Goals as goal
 
 pub find_motion-requires-clause-limited : goal.find_motion-requires-clause-limited
@@ -54,9 +54,8 @@ returns-clause-listed g c =
 pub returns-clause-stands : goal.returns-clause-stands
 returns-clause-stands g c =
     let t = table_of c.args.state.now c.args.rows.now c.args.values.now c.args.costs.now c.args.number in
-    on_ok_weaker c.work_swap.result
-    (λ pivots end new next many broad picks log stands. swap_after c.args.inst.now t log stands c.args.q c.args.position end next
+    if_ok_both c.work_swap.result _ _ _ c.work_swap.ensures.line c.work_swap.ensures.pivoted
+    (λ count line pivots end new next many broad taken log stands. swap_after c.args.inst.now t log stands c.args.q c.args.position end next
     c.in_ok-motion.motion c.in_ok-motion.ensures.motion c.rest_of.result c.rest_of.ensures c.find_motion.new.alpha c.find_motion.ensures.column
-    c.rows-positions.ensures.well_formed c.work_swap.new.out_rows new c.work_swap.new.out_values c.work_swap.new.out_costs
-    (c.work_swap.auto.out_values ∙ c.requires.spare_values ∙ stands.sized.rows ∙ sym stands.sized.values) (c.work_swap.auto.out_costs ∙ c.requires.spare_costs) many broad picks pivots)
-    c.work_swap.ensures.pivoted
+    c.rows-positions.ensures.well_formed c.work_swap.new.by (take count c.work_swap.new.support) c.work_swap.new.out_rows new c.work_swap.new.out_values c.work_swap.new.out_costs line
+    (c.work_swap.auto.out_values ∙ c.requires.spare_values ∙ stands.sized.rows ∙ sym stands.sized.values) (c.work_swap.auto.out_costs ∙ c.requires.spare_costs) many broad taken pivots)

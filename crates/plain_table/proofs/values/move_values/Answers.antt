@@ -30,10 +30,12 @@ loop-i-preserved g c =
       width = c.value_after.ensures.width ∙ c.loop-i.invariant.width;
       unfit = c.in-Ok.ensures.unfit ∙ c.loop-i.invariant.unfit;
       count = length-set c.loop-i.out i c.in-Ok.value ∙ c.loop-i.invariant.count;
-      moved = set_next (λ k. (value_work (eqb k c.args.position) c.args.down c.args.rest (at values k) (at column k) c.args.ratio).answer) c.loop-i.out i c.in-Ok.value within_out c.loop-i.invariant.moved
+      moved = set_next (λ k. (value_work (eqb k c.args.position) c.args.down c.args.rest (at values k) (at column k) c.args.ratio).answer) c.loop-i.out i
+          c.in-Ok.value within_out c.loop-i.invariant.moved
           (value_is _ _ c.loop-i.invariant.width c.args.number c.args.position c.args.down c.args.rest c.args.ratio values column i _ _ within within_column c.index-values-i.is c.index-column-i.is
           c.in-Ok.value c.in-Ok.ensures.settled);
-      fits = below_more (λ k. AllFit (g.A.Arith.width c.args.arith.now) (placed (place c.args.number kind.Value (Some k) None) (value_work (eqb k c.args.position) c.args.down c.args.rest (at values k) (at column k) c.args.ratio)))
+      fits = below_more (λ k. AllFit (g.A.Arith.width c.args.arith.now) (placed (place c.args.number kind.Value (Some k) None)
+          (value_work (eqb k c.args.position) c.args.down c.args.rest (at values k) (at column k) c.args.ratio)))
           i c.loop-i.invariant.fits
           (value_fits _ _ c.loop-i.invariant.width c.args.number c.args.position c.args.down c.args.rest c.args.ratio values column i _ _ within within_column c.index-values-i.is c.index-column-i.is
           c.in-Ok.value c.in-Ok.ensures.settled);
@@ -41,5 +43,6 @@ loop-i-preserved g c =
 
 pub returns-clause-answer : goal.returns-clause-answer
 returns-clause-answer g c =
-    all-flat_map _ (λ i. placed (place c.args.number kind.Value (Some i) None) (value_work (eqb i c.args.position) c.args.down c.args.rest (at c.args.values.now i) (at c.args.column.now i) c.args.ratio))
+    all-flat_map _ (λ i. placed (place c.args.number kind.Value (Some i) None) (value_work (eqb i c.args.position) c.args.down c.args.rest
+    (at c.args.values.now i) (at c.args.column.now i) c.args.ratio))
     (length c.args.values.now) (λ k b. c.loop-i.invariant.fits k (omega arith))

@@ -12,5 +12,6 @@ invariant-loop-i g l = record {
   unfit : g.A.Arith.unfit_count l.arith ≡ g.A.Arith.unfit_count l.fn.arith;
   count : length l.out ≡ length l.values;
   moved : (k : ℕ) → k < l.i → at l.out k ≡ (value_work (eqb k l.position) l.down l.rest (at l.values k) (at l.column k) l.ratio).answer;
-  fits : (k : ℕ) → k < l.i → AllFit (g.A.Arith.width l.fn.arith) (placed (place l.number kind.Value (Some k) None) (value_work (eqb k l.position) l.down l.rest (at l.values k) (at l.column k) l.ratio));
+  fits : (k : ℕ) → k < l.i → AllFit (g.A.Arith.width l.fn.arith) (placed (place l.number kind.Value (Some k) None)
+      (value_work (eqb k l.position) l.down l.rest (at l.values k) (at l.column k) l.ratio));
 }

@@ -9,7 +9,8 @@ invariant_of-self g c =
     let ps = c.self.inside.pairs.items in
     let here = subst (λ (v : Sparse g.row.V.Denot). IsAt v.pairs c.args.i c.in-Ok.k) (sym c.self.view_is) c.in-Ok.ensures.found in
     let d = c.remove.result in
-    let gone : c.remove.new.self.items ≡ remove_row c.args.i ps = c.remove.ensures.items ∙ sym (remove_row-found c.self.inside.len 0 ps c.self.invariant c.args.i c.in-Ok.k d here.in_range (here.has_row d)) in
+    let gone : c.remove.new.self.items ≡ remove_row c.args.i ps = c.remove.ensures.items
+    ∙ sym (remove_row-found c.self.inside.len 0 ps c.self.invariant c.args.i c.in-Ok.k d here.in_range (here.has_row d)) in
     rw gone (IsRising-remove_row c.self.inside.len 0 ps c.args.i c.self.invariant)
 
 pub returns-in-Ok-clause-value : goal.returns-in-Ok-clause-value
@@ -17,14 +18,16 @@ returns-in-Ok-clause-value g c =
     let ps = c.self.inside.pairs.items in
     let here = subst (λ (v : Sparse g.row.V.Denot). IsAt v.pairs c.args.i c.in-Ok.k) (sym c.self.view_is) c.in-Ok.ensures.found in
     let d = c.remove.result in
-    ap (λ (p : ℕ × g.row.V.Denot). Some p.1) c.remove.ensures.value ∙ rw (← c.self.view_is) (sym (value_at-found c.self.inside.len 0 ps c.self.invariant c.args.i c.in-Ok.k d here.in_range (here.has_row d)))
+    ap (λ (p : ℕ × g.row.V.Denot). Some p.1) c.remove.ensures.value ∙ rw (← c.self.view_is)
+    (sym (value_at-found c.self.inside.len 0 ps c.self.invariant c.args.i c.in-Ok.k d here.in_range (here.has_row d)))
 
 pub returns-in-Ok-clause-rest : goal.returns-in-Ok-clause-rest
 returns-in-Ok-clause-rest g c =
     let ps = c.self.inside.pairs.items in
     let here = subst (λ (v : Sparse g.row.V.Denot). IsAt v.pairs c.args.i c.in-Ok.k) (sym c.self.view_is) c.in-Ok.ensures.found in
     let d = c.remove.result in
-    let gone : c.remove.new.self.items ≡ remove_row c.args.i ps = c.remove.ensures.items ∙ sym (remove_row-found c.self.inside.len 0 ps c.self.invariant c.args.i c.in-Ok.k d here.in_range (here.has_row d)) in
+    let gone : c.remove.new.self.items ≡ remove_row c.args.i ps = c.remove.ensures.items
+    ∙ sym (remove_row-found c.self.inside.len 0 ps c.self.invariant c.args.i c.in-Ok.k d here.in_range (here.has_row d)) in
     rw (gone, ← c.self.view_is) refl
 
 pub returns-in-Err-clause-value : goal.returns-in-Err-clause-value

@@ -15,7 +15,8 @@ columns-init c =
     let held = first_link xs x (sym first) in
     record {
       held = held;
-      walked = Walked-more xs (Some x) (λ d. x ≤ d) (Walked-first xs (Some x) (λ d. x ≤ d) first) x refl c.next-next.result (λ d. x ≤ d) (c.next-next.ensures.chained.once c.args.r) (c.next-next.ensures.next c.args.r held) (λ d h. h) (omega arith);
+      walked = Walked-more xs (Some x) (λ d. x ≤ d) (Walked-first xs (Some x) (λ d. x ≤ d) first) x refl c.next-next.result (λ d. x ≤ d)
+          (c.next-next.ensures.chained.once c.args.r) (c.next-next.ensures.next c.args.r held) (λ d h. h) (omega arith);
       item = c.next-next.ensures.item;
       chained = c.next-next.ensures.chained;
     }
@@ -38,7 +39,8 @@ columns-preserved c =
           (λ lt. let e : c.columns.least ≡ least = omega arith in subst (λ (x : ℕ). Contains xs x) e inv.held)
           (λ le. let e : c.in-Some.c ≡ least = omega arith in subst (λ (x : ℕ). Contains xs x) e held)
           (cases_lt c.columns.least c.in-Some.c);
-      walked = Walked-more _ _ _ inv.walked c.in-Some.c c.in-Some.is c.next-next-in-Some.result (λ d. least ≤ d) (inv.chained.once c.args.r) (c.next-next-in-Some.ensures.next c.args.r held) (λ d h. omega arith) (omega arith);
+      walked = Walked-more _ _ _ inv.walked c.in-Some.c c.in-Some.is c.next-next-in-Some.result (λ d. least ≤ d) (inv.chained.once c.args.r)
+          (c.next-next-in-Some.ensures.next c.args.r held) (λ d h. omega arith) (omega arith);
       item = c.next-next-in-Some.ensures.item;
       chained = inv.chained;
     }

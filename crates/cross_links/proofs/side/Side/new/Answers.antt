@@ -32,4 +32,6 @@ pub returns-clause-kept : goal.returns-clause-kept
 returns-clause-kept g c =
     let n = c.args.size in
     let all : c.loop-i.i ≡ n = omega arith in
-    IsKept-new n c.args.links _ c.in_ok-lines.ensures (subst (λ (i : ℕ). c.loop-i.counts.items ≡ replicate i 0) all c.loop-i.invariant.counts) (subst (λ (i : ℕ). c.loop-i.active.items ≡ replicate i true) all c.loop-i.invariant.active) (subst (λ (i : ℕ). HasFirst n i c.loop-i.buckets) all c.loop-i.invariant.filled)
+    IsKept-new n c.args.links _ c.in_ok-lines.ensures (subst (λ (i : ℕ). c.loop-i.counts.items ≡ replicate i 0) all c.loop-i.invariant.counts)
+    (subst (λ (i : ℕ). c.loop-i.active.items ≡ replicate i true) all c.loop-i.invariant.active)
+    (subst (λ (i : ℕ). HasFirst n i c.loop-i.buckets) all c.loop-i.invariant.filled)

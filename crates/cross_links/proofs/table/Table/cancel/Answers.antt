@@ -21,4 +21,5 @@ place-requires-clause-loose g c =
 
 pub returns-clause-held : goal.returns-clause-held
 returns-clause-held g c =
-    IsHeld-taken c.args.self.now _ c.args.link c.entry-r.result c.requires.held c.entry-r.ensures refl refl c.place.ensures.placed c.place.ensures.chained c.unlink.ensures.lines c.unlink.ensures.active c.unlink.ensures.kept c.unlink-2.ensures.lines c.unlink-2.ensures.active c.unlink-2.ensures.kept
+    IsHeld-taken c.args.self.now _ c.args.link c.entry-r.result c.requires.held c.entry-r.ensures refl refl c.place.ensures.placed c.place.ensures.chained
+    c.unlink.ensures.lines c.unlink.ensures.active c.unlink.ensures.kept c.unlink-2.ensures.lines c.unlink-2.ensures.active c.unlink-2.ensures.kept

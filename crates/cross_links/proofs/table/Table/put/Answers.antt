@@ -30,4 +30,5 @@ returns-clause-held g c =
     let e : Entry = (c.args.r, c.args.c, c.args.v) in
     let rows = c.link.ensures in
     let cols = c.link-2.ensures in
-    IsHeld-put t _ c.args.link e c.requires.held c.requires.free refl refl c.unlink.ensures.unlinked c.unlink.ensures.chained c.requires.row c.requires.col c.requires.active_row c.requires.active_col c.requires.absent rows.lines rows.active rows.kept cols.lines cols.active cols.kept
+    IsHeld-put t _ c.args.link e c.requires.held c.requires.free refl refl c.unlink.ensures.unlinked c.unlink.ensures.chained c.requires.row c.requires.col
+    c.requires.active_row c.requires.active_col c.requires.absent rows.lines rows.active rows.kept cols.lines cols.active cols.kept

@@ -24,7 +24,10 @@ pub returns-in_err-denom : goal.returns-in_err-denom
 returns-in_err-denom c =
     let over = over_parts_common _ _ _ _ _ _ _ _ _ _ _ c.parts-a.ensures.splits c.parts-b.ensures.splits c.requires.divisor c.requires.left c.requires.right in
     let terms = sum_terms _ _ _ _ _ _ _ _ over c.shared_divisor-shared.ensures in
-    rw c.from_residual.ensures (unfit_denom _ _ _ _ _ _ _ _ terms _ refl c.args.a c.args.b c.parts-a.result.negative c.parts-b.result.negative c.parts-a.result.size c.parts-b.result.size c.floor_and_part-floor_a.result.0 c.floor_and_part-floor_b.result.0 c.parts-a.ensures.splits c.parts-b.ensures.splits c.floor_and_part-floor_a.ensures.whole c.floor_and_part-floor_b.ensures.whole _ refl (λ h. c.in_err-denom.ensures (subst (λ n. n * c.args.common.right < 2 ^ 127) (sym c.div_rem.ensures.quotient) h)))
+    rw c.from_residual.ensures (unfit_denom _ _ _ _ _ _ _ _ terms _ refl c.args.a c.args.b c.parts-a.result.negative c.parts-b.result.negative
+    c.parts-a.result.size c.parts-b.result.size c.floor_and_part-floor_a.result.0 c.floor_and_part-floor_b.result.0 c.parts-a.ensures.splits
+    c.parts-b.ensures.splits c.floor_and_part-floor_a.ensures.whole c.floor_and_part-floor_b.ensures.whole _ refl
+    (λ h. c.in_err-denom.ensures (subst (λ n. n * c.args.common.right < 2 ^ 127) (sym c.div_rem.ensures.quotient) h)))
 
 pub part_over-part-requires-clause-divides : goal.part_over-part-requires-clause-divides
 part_over-part-requires-clause-divides c =
@@ -48,13 +51,26 @@ pub part_over-part-requires-clause-fits : goal.part_over-part-requires-clause-fi
 part_over-part-requires-clause-fits c =
     let over = over_parts_common _ _ _ _ _ _ _ _ _ _ _ c.parts-a.ensures.splits c.parts-b.ensures.splits c.requires.divisor c.requires.left c.requires.right in
     let terms = sum_terms _ _ _ _ _ _ _ _ over c.shared_divisor-shared.ensures in
-    omega (arith, c.in_ok-denom.ensures.0, c.in_ok-denom.ensures.1, part_below _ _ _ _ _ _ _ _ terms c.in_ok-denom.denom (c.in_ok-denom.ensures.1 ∙ ap (λ n. n * c.args.common.right) c.div_rem.ensures.quotient) c.floor_and_part-floor_a.ensures.part_below c.floor_and_part-floor_b.ensures.part_below)
+    omega (
+      arith,
+      c.in_ok-denom.ensures.0,
+      c.in_ok-denom.ensures.1,
+      part_below _ _ _ _ _ _ _ _ terms c.in_ok-denom.denom
+          (c.in_ok-denom.ensures.1 ∙ ap (λ n. n * c.args.common.right) c.div_rem.ensures.quotient) c.floor_and_part-floor_a.ensures.part_below
+          c.floor_and_part-floor_b.ensures.part_below,
+    )
 
 pub joined-requires-clause-part_below : goal.joined-requires-clause-part_below
 joined-requires-clause-part_below c =
     let over = over_parts_common _ _ _ _ _ _ _ _ _ _ _ c.parts-a.ensures.splits c.parts-b.ensures.splits c.requires.divisor c.requires.left c.requires.right in
     let terms = sum_terms _ _ _ _ _ _ _ _ over c.shared_divisor-shared.ensures in
-    omega (arith, c.part_over-part.ensures, part_below _ _ _ _ _ _ _ _ terms c.in_ok-denom.denom (c.in_ok-denom.ensures.1 ∙ ap (λ n. n * c.args.common.right) c.div_rem.ensures.quotient) c.floor_and_part-floor_a.ensures.part_below c.floor_and_part-floor_b.ensures.part_below)
+    omega (
+      arith,
+      c.part_over-part.ensures,
+      part_below _ _ _ _ _ _ _ _ terms c.in_ok-denom.denom
+          (c.in_ok-denom.ensures.1 ∙ ap (λ n. n * c.args.common.right) c.div_rem.ensures.quotient) c.floor_and_part-floor_a.ensures.part_below
+          c.floor_and_part-floor_b.ensures.part_below,
+    )
 
 pub returns-in_err-negative : goal.returns-in_err-negative
 returns-in_err-negative c =
@@ -63,7 +79,11 @@ returns-in_err-negative c =
     let fits_a : SFits w128 c.floor_and_part-floor_a.result.0 = search rules in
     let fits_b : SFits w128 c.floor_and_part-floor_b.result.0 = search rules in
     let seen = joined_seen c.floor_and_part-floor_a.result.0 c.floor_and_part-floor_b.result.0 c.in_ok-denom.denom c.part_over-part.result fits_a fits_b in
-    rw c.from_residual-in_err-negative.ensures (unfit_top _ _ _ _ _ _ _ _ terms c.in_ok-denom.denom (c.in_ok-denom.ensures.1 ∙ ap (λ n. n * c.args.common.right) c.div_rem.ensures.quotient) c.args.a c.args.b c.parts-a.result.negative c.parts-b.result.negative c.parts-a.result.size c.parts-b.result.size c.floor_and_part-floor_a.result.0 c.floor_and_part-floor_b.result.0 c.parts-a.ensures.splits c.parts-b.ensures.splits c.floor_and_part-floor_a.ensures.whole c.floor_and_part-floor_b.ensures.whole _ c.part_over-part.ensures _ seen c.in_err-negative.ensures)
+    rw c.from_residual-in_err-negative.ensures (unfit_top _ _ _ _ _ _ _ _ terms c.in_ok-denom.denom
+    (c.in_ok-denom.ensures.1 ∙ ap (λ n. n * c.args.common.right) c.div_rem.ensures.quotient) c.args.a c.args.b c.parts-a.result.negative
+    c.parts-b.result.negative c.parts-a.result.size c.parts-b.result.size c.floor_and_part-floor_a.result.0 c.floor_and_part-floor_b.result.0
+    c.parts-a.ensures.splits c.parts-b.ensures.splits c.floor_and_part-floor_a.ensures.whole c.floor_and_part-floor_b.ensures.whole _
+    c.part_over-part.ensures _ seen c.in_err-negative.ensures)
 
 pub returns : goal.returns
 returns c =
@@ -72,4 +92,8 @@ returns c =
     let fits_a : SFits w128 c.floor_and_part-floor_a.result.0 = search rules in
     let fits_b : SFits w128 c.floor_and_part-floor_b.result.0 = search rules in
     let seen = joined_seen c.floor_and_part-floor_a.result.0 c.floor_and_part-floor_b.result.0 c.in_ok-denom.denom c.part_over-part.result fits_a fits_b in
-    sum_splits _ _ _ _ _ _ _ _ terms c.in_ok-denom.denom (c.in_ok-denom.ensures.1 ∙ ap (λ n. n * c.args.common.right) c.div_rem.ensures.quotient) c.args.a c.args.b c.parts-a.result.negative c.parts-b.result.negative c.parts-a.result.size c.parts-b.result.size c.floor_and_part-floor_a.result.0 c.floor_and_part-floor_b.result.0 c.parts-a.ensures.splits c.parts-b.ensures.splits c.floor_and_part-floor_a.ensures.whole c.floor_and_part-floor_b.ensures.whole _ c.part_over-part.ensures _ seen _ _ c.in_ok-negative.ensures.0 c.in_ok-negative.ensures.1 (subst (λ n. n < 2 ^ 127) (sym c.in_ok-denom.ensures.1) c.in_ok-denom.ensures.0)
+    sum_splits _ _ _ _ _ _ _ _ terms c.in_ok-denom.denom (c.in_ok-denom.ensures.1 ∙ ap (λ n. n * c.args.common.right) c.div_rem.ensures.quotient) c.args.a
+    c.args.b c.parts-a.result.negative c.parts-b.result.negative c.parts-a.result.size c.parts-b.result.size c.floor_and_part-floor_a.result.0
+    c.floor_and_part-floor_b.result.0 c.parts-a.ensures.splits c.parts-b.ensures.splits c.floor_and_part-floor_a.ensures.whole
+    c.floor_and_part-floor_b.ensures.whole _ c.part_over-part.ensures _ seen _ _ c.in_ok-negative.ensures.0 c.in_ok-negative.ensures.1
+    (subst (λ n. n < 2 ^ 127) (sym c.in_ok-denom.ensures.1) c.in_ok-denom.ensures.0)

@@ -4,11 +4,25 @@ use Rattle.exact_frac.proofs.fraction.sum.scaled.Goals as goal
 
 pub overflow_mul-result : goal.overflow_mul-result
 overflow_mul-result c =
-    record { fits = omega (arith, c.requires.fits, scaled_is _ _ _ _ _ _ _ c.div_rem-whole.ensures.quotient c.div_rem-whole.ensures.rest c.div_rem-more.ensures.quotient c.div_rem-more.ensures.rest c.requires.some) }
+    record {
+      fits = omega (
+        arith,
+        c.requires.fits,
+        scaled_is _ _ _ _ _ _ _ c.div_rem-whole.ensures.quotient c.div_rem-whole.ensures.rest
+            c.div_rem-more.ensures.quotient c.div_rem-more.ensures.rest c.requires.some,
+      );
+    }
 
 pub overflow_add-result : goal.overflow_add-result
 overflow_add-result c =
-    record { fits = omega (arith, c.requires.fits, scaled_is _ _ _ _ _ _ _ c.div_rem-whole.ensures.quotient c.div_rem-whole.ensures.rest c.div_rem-more.ensures.quotient c.div_rem-more.ensures.rest c.requires.some) }
+    record {
+      fits = omega (
+        arith,
+        c.requires.fits,
+        scaled_is _ _ _ _ _ _ _ c.div_rem-whole.ensures.quotient c.div_rem-whole.ensures.rest
+            c.div_rem-more.ensures.quotient c.div_rem-more.ensures.rest c.requires.some,
+      );
+    }
 
 pub returns-clause-quotient : goal.returns-clause-quotient
 returns-clause-quotient c =

@@ -13,7 +13,8 @@ returns-then-asked-self-clause-fault c =
       record {
         piece = piece_to end bytes;
         rest = drop (end + c.from.result) c.args.ahead.now;
-        found = BeginsWith-piece_of c.args.ahead.now bytes end c.from.result c.bytes-bytes.ensures c.from.ensures c.first_place-end.ensures.within c.first_place-end.ensures.before c.first_place-end.ensures.found;
+        found = BeginsWith-piece_of c.args.ahead.now bytes end c.from.result c.bytes-bytes.ensures c.from.ensures c.first_place-end.ensures.within
+            c.first_place-end.ensures.before c.first_place-end.ensures.found;
         over = omega (arith, size);
       },
     )
@@ -25,7 +26,8 @@ returns-clause-ok c =
     let size : size_of (piece_to end bytes) ≡ end + c.from.result =
     size_of-piece_to bytes end c.first_place-end.ensures.within ∙ ap (λ n. end + n) (sym c.from.ensures) in record {
       piece = piece_to end bytes;
-      found = rw (c.skip.ensures) (BeginsWith-piece_of c.args.ahead.now bytes end c.from.result c.bytes-bytes.ensures c.from.ensures c.first_place-end.ensures.within c.first_place-end.ensures.before c.first_place-end.ensures.found);
+      found = rw (c.skip.ensures) (BeginsWith-piece_of c.args.ahead.now bytes end c.from.result c.bytes-bytes.ensures c.from.ensures
+          c.first_place-end.ensures.within c.first_place-end.ensures.before c.first_place-end.ensures.found);
       grows = record {
         bytes = c.in_ok-keep.ensures.bytes;
         longer = c.in_ok-keep.ensures.longer;

@@ -13,7 +13,8 @@ use Rattle.mps_reader.proofs.RowsAdded.{fresh, no_column, room, row_added}
 use Rattle.mps_reader.proofs.draft.Draft.add_row.Goals as goal
 
 -- a refusal that is no repeated name is want of memory
-only_memory : (judged : Result DeckSoFar LineFault) (new : Draft) (fault : EditFault) (result : Result (Unit {0}) Refusal) → fault ≢ edit.Repeated → IsErr result × IsErrAnd result (λ refusal. refusal ≡ edit_refusal fault) → Judged judged new result
+only_memory : (judged : Result DeckSoFar LineFault) (new : Draft) (fault : EditFault) (result : Result (Unit {0}) Refusal) → fault ≢ edit.Repeated
+    → IsErr result × IsErrAnd result (λ refusal. refusal ≡ edit_refusal fault) → Judged judged new result
 only_memory judged new fault (Ok u) other refused = absurd (cc refused.0)
 only_memory judged new edit.Memory (Err refusal) other refused = subst (λ r. IsFound judged (line_fault r)) (sym refused.1) tt
 only_memory judged new edit.Repeated (Err refusal) other refused = absurd (other refl)

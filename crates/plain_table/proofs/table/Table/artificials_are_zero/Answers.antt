@@ -11,4 +11,5 @@ pub loop-p-preserved : goal.loop-p-preserved
 loop-p-preserved c =
     let inst = c.args.inst.now in
     let t = c.args.self.now in
-    below_more (λ p. IsArtificial inst (basic t.state p) → at t.values p ≡ zero_ℚ) c.loop-p.p c.loop-p.invariant (not_off inst t.state t.values c.loop-p.p c.is_needed.result c.is_needed.ensures c.if-is_needed.false)
+    below_more (λ p. IsArtificial inst (basic t.state p) → at t.values p ≡ zero_ℚ) c.loop-p.p c.loop-p.invariant
+    (not_off inst t.state t.values c.loop-p.p c.is_needed.result c.is_needed.ensures c.if-is_needed.false)

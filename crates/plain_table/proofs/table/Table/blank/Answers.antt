@@ -1,5 +1,5 @@
 -- Each part has its length.
-use Rattle.std.proofs.Common.{◌∙◌, refl, subst, arith}
+use Rattle.std.proofs.Common.{◌∙◌, refl, sym, subst, arith}
 use Rattle.plain_table.specs.declared.table.Table.TheInside.{Inside}
 use Rattle.plain_table.specs.Inner.Rows.{AreWide}
 use Rattle.plain_table.proofs.Memories.{HasMemory, is_sound, starts}
@@ -21,6 +21,7 @@ invariant_of-result c =
       spare_values = c.in_ok-zeros-3.ensures ∙ m;
       spare_costs = c.in_ok-zeros-4.ensures ∙ n;
       pivot_row = c.in_ok-zeros-5.ensures ∙ n;
+      support = sym c.in_ok-vec.field-0.ok.0 ∙ c.in_ok-vec.ensures.len ∙ n;
       alpha = c.in_ok-zeros-6.ensures ∙ m;
     } in
     is_sound c.args.inst.now _ memory (omega (arith, m, c.rows-rows.ensures.few)) (omega (arith, n, c.columns-columns.ensures.few))
@@ -40,6 +41,7 @@ returns-clause-start c =
       spare_values = c.in_ok-zeros-3.field-0;
       spare_costs = c.in_ok-zeros-4.field-0;
       pivot_row = c.in_ok-zeros-5.field-0;
+      support = c.in_ok-vec.field-0;
       alpha = c.in_ok-zeros-6.field-0;
     } in
     starts c.args.inst.now inside
@@ -55,6 +57,7 @@ returns-clause-start c =
       spare_values = c.in_ok-zeros-3.ensures ∙ m;
       spare_costs = c.in_ok-zeros-4.ensures ∙ n;
       pivot_row = c.in_ok-zeros-5.ensures ∙ n;
+      support = sym c.in_ok-vec.field-0.ok.0 ∙ c.in_ok-vec.ensures.len ∙ n;
       alpha = c.in_ok-zeros-6.ensures ∙ m;
     })
     c.rows-rows.ensures.well_formed

@@ -38,6 +38,7 @@ invariant_of-self-in_err-work_start_values g c =
       spare_values = m.spare_values;
       spare_costs = m.spare_costs;
       pivot_row = m.pivot_row;
+      support = m.support;
       alpha = m.alpha;
     })
 
@@ -73,6 +74,7 @@ invariant_of-self-2 g c =
       spare_values = m.spare_values;
       spare_costs = m.spare_costs;
       pivot_row = m.pivot_row;
+      support = m.support;
       alpha = same_length a.alpha c.basic_costs.new.out ∙ m.alpha;
     })
 
@@ -120,6 +122,7 @@ returns-clause-filled g c =
       spare_values = a.spare_values;
       spare_costs = a.spare_costs;
       pivot_row = a.pivot_row;
+      support = a.support;
       alpha = with_items a.alpha c.basic_costs.new.out;
     } in
     let memory : HasMemory inst b = record {
@@ -134,6 +137,7 @@ returns-clause-filled g c =
       spare_values = m.spare_values;
       spare_costs = m.spare_costs;
       pivot_row = m.pivot_row;
+      support = m.support;
       alpha = same_length a.alpha c.basic_costs.new.out ∙ m.alpha;
     } in
     on_ok c.work_costs.result

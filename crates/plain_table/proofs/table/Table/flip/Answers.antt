@@ -27,6 +27,7 @@ invariant_of-self g c =
           ∙ ap (λ xs. length xs) c.deref_mut-2.ensures.value ∙ sound.spare_values;
       spare_costs = sound.spare_costs;
       pivot_row = sound.pivot_row;
+      support = sound.support;
       alpha = ap (λ xs. length xs) (with_items_is a.alpha c.work_flip.new.alpha (c.work_flip.auto.alpha ∙ c.deref_mut.ensures.len)) ∙ c.work_flip.auto.alpha
           ∙ ap (λ xs. length xs) c.deref_mut.ensures.value ∙ sound.alpha;
       few_rows = sound.few_rows;
@@ -57,6 +58,7 @@ invariant_of-self-2 g c =
       spare_values = ap (λ v. length v.items) c.swap.ensures.y_after ∙ sound.sized.values;
       spare_costs = sound.spare_costs;
       pivot_row = sound.pivot_row;
+      support = sound.support;
       alpha = ap (λ xs. length xs) (with_items_is a.alpha c.work_flip.new.alpha (c.work_flip.auto.alpha ∙ c.deref_mut.ensures.len)) ∙ c.work_flip.auto.alpha
           ∙ ap (λ xs. length xs) c.deref_mut.ensures.value ∙ sound.alpha;
       few_rows = sound.few_rows;

@@ -1,0 +1,513 @@
+// The peer of `lp`: the same run on a plain table, in C++. It reads a deck in fixed MPS (names without blanks, and no faults) and prints the report that
+// `lp solve` prints; with the word `moves` the number of moves on standard error.
+// The method: two phases over structurals, logicals and artificials, bounds, Bland's rule, and a table of m rows and n + 2m columns that is changed in place.
+// Fractions in lowest terms over 128-bit integers, each product and sum checked, by the method of `exact_frac` (see `same` in arith_peer.cc). A value that
+// does not fit 127 bits ends the program with status 6.
+#include <cstdint>
+#include <cstdio>
+#include <cstdlib>
+#include <cstring>
+#include <iostream>
+#include <map>
+#include <sstream>
+#include <string>
+#include <utility>
+#include <vector>
+
+using u64 = std::uint64_t;
+using i128 = __int128;
+using u128 = unsigned __int128;
+
+constexpr u128 LIMIT = u128(1) << 127;
+constexpr u128 LOW = ~u64(0);
+
+[[noreturn]] static void overflow() {
+  std::fputs("peer: overflow\n", stderr);
+  std::exit(6);
+}
+
+struct Frac {
+  i128 numer = 0;
+  u128 denom = 1;
+
+  bool zero() const { return numer == 0; }
+  bool negative() const { return numer < 0; }
+  u128 size() const { return numer < 0 ? -u128(numer) : u128(numer); }
+  Frac operator-() const { return Frac{-numer, denom}; }
+};
+
+static u128 product(u128 a, u128 b) {
+  u128 answer;
+  if (__builtin_mul_overflow(a, b, &answer)) overflow();
+  return answer;
+}
+
+static Frac fitting(bool negative, u128 size, u128 denom) {
+  if (size >= LIMIT || denom >= LIMIT) overflow();
+  return Frac{negative ? -i128(size) : i128(size), denom};
+}
+
+static u64 odd_low(u64 x, u64 y) {
+  while (x != y) {
+    u64 rest = x < y ? y - x : x - y;
+    y = x < y ? x : y;
+    x = rest >> __builtin_ctzll(rest);
+  }
+  return x;
+}
+
+static u64 positive_low(u64 a, u64 b) {
+  int twos_a = __builtin_ctzll(a), twos_b = __builtin_ctzll(b);
+  return odd_low(a >> twos_a, b >> twos_b) << (twos_a < twos_b ? twos_a : twos_b);
+}
+
+static int trailing_zeros(u128 a) {
+  return u64(a) != 0 ? __builtin_ctzll(u64(a)) : 64 + __builtin_ctzll(u64(a >> 64));
+}
+
+static u128 positive(u128 a, u128 b) {
+  int twos_a = trailing_zeros(a), twos_b = trailing_zeros(b);
+  u128 x = a >> twos_a, y = b >> twos_b;
+  int twos = twos_a < twos_b ? twos_a : twos_b;
+  while (x > LOW || y > LOW) {
+    if (x == y) return x << twos;
+    u128 rest = x < y ? y - x : x - y;
+    y = x < y ? x : y;
+    x = rest >> trailing_zeros(rest);
+  }
+  return u128(odd_low(x, y)) << twos;
+}
+
+static u128 divisor(u128 a, u128 b) {
+  if (a == 1 || b == 1) return 1;
+  if (b == 0) return a;
+  if (a == 0) return b;
+  if (a > LOW && b > LOW) return positive(a, b);
+  if (a > LOW) a %= b;
+  if (b > LOW) b %= a;
+  if (a == 0 || b == 0) return a + b;
+  return positive_low(a, b);
+}
+
+static u128 quotient(u128 a, u128 b) {
+  if (b == 1) return a;
+  if (a <= LOW && b <= LOW) return u64(a) / u64(b);
+  return a / b;
+}
+
+static Frac operator+(Frac a, Frac b) {
+  if (a.zero()) return b;
+  if (b.zero()) return a;
+  bool same = a.denom == b.denom;
+  u128 common = same ? a.denom : divisor(a.denom, b.denom);
+  u128 over_a = same ? 1 : quotient(a.denom, common);
+  u128 over_b = same ? 1 : quotient(b.denom, common);
+  u128 apart = product(over_a, over_b), left = product(a.size(), over_b), right = product(b.size(), over_a), sum;
+  bool negative = a.negative();
+  if (a.negative() == b.negative()) {
+    if (__builtin_add_overflow(left, right, &sum)) overflow();
+  } else if (left >= right) {
+    sum = left - right;
+  } else {
+    sum = right - left;
+    negative = b.negative();
+  }
+  u128 shared = divisor(sum, common);
+  return fitting(negative, quotient(sum, shared), product(apart, quotient(common, shared)));
+}
+
+static Frac operator-(Frac a, Frac b) { return a + -b; }
+
+static bool is_unit(Frac a) { return a.denom == 1 && a.size() <= 1; }
+
+static Frac by_unit(Frac a, Frac unit) {
+  if (unit.zero()) return Frac{};
+  return unit.negative() ? -a : a;
+}
+
+static Frac operator*(Frac a, Frac b) {
+  if (is_unit(a)) return by_unit(b, a);
+  if (is_unit(b)) return by_unit(a, b);
+  u128 left = divisor(a.size(), b.denom), right = divisor(b.size(), a.denom);
+  return fitting(a.negative() != b.negative(), product(quotient(a.size(), left), quotient(b.size(), right)),
+                 product(quotient(a.denom, right), quotient(b.denom, left)));
+}
+
+static Frac inverse(Frac a) { return Frac{a.negative() ? -i128(a.denom) : i128(a.denom), a.size()}; }
+
+static Frac operator/(Frac a, Frac b) { return a * inverse(b); }
+
+static bool operator<(Frac a, Frac b) { return (a - b).negative(); }
+
+static std::string digits(u128 value) {
+  std::string text;
+  do text.insert(text.begin(), char('0' + int(value % 10)));
+  while ((value /= 10) != 0);
+  return text;
+}
+
+static std::string text_of(Frac a) {
+  std::string text = (a.negative() ? "-" : "") + digits(a.size());
+  return a.denom == 1 ? text : text + "/" + digits(a.denom);
+}
+
+static Frac number(const std::string& text) {
+  bool negative = text[0] == '-', point = false;
+  u128 size = 0, denom = 1;
+  for (char c : text) {
+    if (c == '.') point = true;
+    if (c < '0' || c > '9') continue;
+    size = size * 10 + u128(c - '0');
+    if (point) denom *= 10;
+  }
+  u128 common = divisor(size, denom);
+  return fitting(negative, size / common, denom / common);
+}
+
+struct End {
+  bool finite = false;
+  Frac at;
+};
+
+enum Status { BASIC, LOWER, UPPER, ZERO };
+
+struct Row {
+  std::string name;
+  char kind;
+  Frac right;
+  bool ranged = false;
+  Frac range;
+};
+
+struct Column {
+  std::string name;
+  Frac cost;
+  std::vector<std::pair<int, Frac>> entries;
+  End lower{true, Frac{}}, upper;
+  bool opened = false;  // by a bound card other than UP
+};
+
+struct Deck {
+  std::string name, objective;
+  Frac constant;
+  std::vector<Row> rows;
+  std::vector<Column> columns;
+  std::map<std::string, int> row_of, column_of;
+};
+
+static void read_pair(Deck& deck, const std::string& section, const std::string& row, Frac value) {
+  bool cost = row == deck.objective;
+  if (!cost && deck.row_of.count(row) == 0) return;  // of a further N row
+  if (section == "COLUMNS") {
+    Column& column = deck.columns.back();
+    if (cost) column.cost = value;
+    else if (!value.zero()) column.entries.push_back({deck.row_of.at(row), value});
+  } else if (section == "RHS") {
+    if (cost) deck.constant = -value;
+    else deck.rows[deck.row_of.at(row)].right = value;
+  } else if (!cost) {
+    deck.rows[deck.row_of.at(row)].ranged = true;
+    deck.rows[deck.row_of.at(row)].range = value;
+  }
+}
+
+static void read_bound(Deck& deck, const std::string& kind, const std::string& name, Frac value) {
+  Column& column = deck.columns[deck.column_of.at(name)];
+  if (kind == "UP") {
+    column.upper = End{true, value};
+    if (value.negative() && !column.opened) column.lower.finite = false;
+    return;
+  }
+  if (kind == "LO" || kind == "FX") column.lower = End{true, value};
+  if (kind == "FX") column.upper = End{true, value};
+  if (kind == "FR" || kind == "MI") column.lower.finite = false;
+  if (kind == "FR" || kind == "PL") column.upper.finite = false;
+  if (kind != "PL") column.opened = true;
+}
+
+static void read_card(Deck& deck, const std::string& section, const std::vector<std::string>& words) {
+  if (section == "ROWS") {
+    if (words[0] == "N") {
+      if (deck.objective.empty()) deck.objective = words[1];
+      return;
+    }
+    deck.row_of[words[1]] = int(deck.rows.size());
+    deck.rows.push_back(Row{words[1], words[0][0], Frac{}});
+  } else if (section == "BOUNDS") {
+    read_bound(deck, words[0], words[2], words.size() > 3 ? number(words[3]) : Frac{});
+  } else {
+    if (section == "COLUMNS" && (deck.columns.empty() || deck.columns.back().name != words[0])) {
+      deck.column_of[words[0]] = int(deck.columns.size());
+      deck.columns.push_back(Column{});
+      deck.columns.back().name = words[0];
+    }
+    for (std::size_t k = 1; k + 1 < words.size(); k += 2) read_pair(deck, section, words[k], number(words[k + 1]));
+  }
+}
+
+static Deck read_deck() {
+  Deck deck;
+  std::string line, section;
+  while (std::getline(std::cin, line)) {
+    std::istringstream parts(line);
+    std::vector<std::string> words;
+    for (std::string word; parts >> word;) words.push_back(word);
+    if (words.empty() || line[0] == '*') continue;
+    if (line[0] == ' ') {
+      read_card(deck, section, words);
+      continue;
+    }
+    section = words[0];
+    if (section == "NAME" && words.size() > 1) deck.name = words[1];
+    if (section == "ENDATA") break;
+  }
+  return deck;
+}
+
+struct Table {
+  const Deck& deck;
+  int m, n, all, phase = 2;
+  u64 moves = 0;
+  std::vector<End> lower, upper;
+  std::vector<std::vector<Frac>> rows;
+  std::vector<Frac> values, costs;
+  std::vector<int> basis;
+  std::vector<Status> status;
+  std::vector<bool> needed;
+
+  explicit Table(const Deck& d) : deck(d), m(int(d.rows.size())), n(int(d.columns.size())), all(n + 2 * m) {
+    lower.resize(all);
+    upper.resize(all);
+    status.assign(all, LOWER);
+    needed.assign(m, false);
+    basis.resize(m);
+    values.resize(m);
+    rows.assign(m, std::vector<Frac>(all));
+    for (int j = 0; j < n; j++) start_structural(j);
+    for (int i = 0; i < m; i++) start_row(i);
+    work_costs();
+  }
+
+  void start_structural(int j) {
+    lower[j] = deck.columns[j].lower;
+    upper[j] = deck.columns[j].upper;
+    status[j] = lower[j].finite ? LOWER : upper[j].finite ? UPPER : ZERO;
+    Frac rest = at_rest(j);
+    for (auto& [i, a] : deck.columns[j].entries) {
+      rows[i][j] = a;
+      if (!rest.zero()) values[i] = values[i] - a * rest;
+    }
+  }
+
+  void bound_logical(int i) {
+    const Row& row = deck.rows[i];
+    Frac size = row.range.negative() ? -row.range : row.range, zero;
+    End& low = lower[n + i];
+    End& up = upper[n + i];
+    if (row.kind != 'G') low = End{true, zero};
+    if (row.kind != 'L') up = End{true, zero};
+    if (!row.ranged) return;
+    if (row.kind == 'L' || (row.kind == 'E' && row.range.negative())) up = End{true, size};
+    if (row.kind == 'G' || (row.kind == 'E' && !row.range.negative())) low = End{true, -size};
+  }
+
+  void start_row(int i) {
+    bound_logical(i);
+    int logical = n + i, artificial = n + m + i;
+    Frac rest = deck.rows[i].right + values[i];
+    bool below = lower[logical].finite && rest < lower[logical].at, above = upper[logical].finite && upper[logical].at < rest;
+    lower[artificial] = upper[artificial] = End{true, Frac{}};
+    rows[i][logical] = Frac{1, 1};
+    rows[i][artificial] = Frac{1, 1};
+    status[logical] = status[artificial] = LOWER;
+    basis[i] = logical;
+    values[i] = rest;
+    if (below || above) {
+      phase = 1;
+      needed[i] = true;
+      upper[artificial].finite = false;
+      status[logical] = below ? LOWER : UPPER;
+      basis[i] = artificial;
+      values[i] = below ? lower[logical].at - rest : rest - upper[logical].at;
+      if (below)
+        for (int j = 0; j < artificial; j++) rows[i][j] = -rows[i][j];
+    }
+    status[basis[i]] = BASIC;
+  }
+
+  Frac cost(int j) const {
+    if (phase == 1) return j >= n + m && needed[j - n - m] ? Frac{1, 1} : Frac{};
+    return j < n ? deck.columns[j].cost : Frac{};
+  }
+
+  void work_costs() {
+    costs.resize(all);
+    for (int j = 0; j < all; j++) costs[j] = cost(j);
+    for (int p = 0; p < m; p++) {
+      Frac basic = cost(basis[p]);
+      if (!basic.zero()) subtract(costs, rows[p], basic);
+    }
+  }
+
+  Frac at_rest(int j) const {
+    if (status[j] == LOWER) return lower[j].at;
+    if (status[j] == UPPER) return upper[j].at;
+    return Frac{};
+  }
+
+  void subtract(std::vector<Frac>& line, const std::vector<Frac>& by, Frac factor) const {
+    for (int j = 0; j < all; j++)
+      if (!by[j].zero()) line[j] = line[j] - factor * by[j];
+  }
+
+  bool fixed(int j) const { return lower[j].finite && upper[j].finite && lower[j].at.numer == upper[j].at.numer && lower[j].at.denom == upper[j].at.denom; }
+
+  int entering() const {
+    for (int j = 0; j < all; j++) {
+      const Frac& d = costs[j];
+      bool improves = (status[j] == LOWER && d.negative()) || (status[j] == UPPER && d.numer > 0) || (status[j] == ZERO && !d.zero());
+      if (improves && !fixed(j)) return j;
+    }
+    return -1;
+  }
+
+  struct Limit {
+    bool found = false;
+    Frac ratio;
+    int column = 0, position = -1;
+    bool up = false;
+  };
+
+  void offer(Limit& best, Limit other) const {
+    if (!best.found || other.ratio < best.ratio || (!(best.ratio < other.ratio) && other.column < best.column)) best = other;
+  }
+
+  Limit ratio_test(int q, bool falls) const {
+    Limit best;
+    for (int p = 0; p < m; p++) {
+      const Frac& element = rows[p][q];
+      if (element.zero()) continue;
+      bool up = element.negative() != falls;
+      int j = basis[p];
+      const End& end = up ? upper[j] : lower[j];
+      if (!end.finite) continue;
+      Frac distance = up ? end.at - values[p] : values[p] - end.at;
+      offer(best, Limit{true, distance / (element.negative() ? -element : element), j, p, up});
+    }
+    if (lower[q].finite && upper[q].finite) offer(best, Limit{true, upper[q].at - lower[q].at, q, -1});
+    return best;
+  }
+
+  void pivot(int p, int q) {
+    std::vector<Frac>& by = rows[p];
+    Frac element = by[q];
+    for (Frac& x : by)
+      if (!x.zero()) x = x / element;
+    for (int i = 0; i < m; i++) {
+      Frac factor = rows[i][q];
+      if (i != p && !factor.zero()) subtract(rows[i], by, factor);
+    }
+    Frac cost = costs[q];
+    subtract(costs, by, cost);
+  }
+
+  void move(int q, bool falls, const Limit& limit) {
+    moves++;
+    Frac step = falls ? -limit.ratio : limit.ratio, rest = at_rest(q);
+    for (int p = 0; p < m; p++)
+      if (p != limit.position && !rows[p][q].zero() && !step.zero()) values[p] = values[p] - rows[p][q] * step;
+    if (limit.position < 0) {
+      status[q] = status[q] == LOWER ? UPPER : LOWER;
+      return;
+    }
+    values[limit.position] = rest + step;
+    status[basis[limit.position]] = limit.up ? UPPER : LOWER;
+    status[q] = BASIC;
+    basis[limit.position] = q;
+    pivot(limit.position, q);
+  }
+
+  bool artificials_are_zero() const {
+    for (int p = 0; p < m; p++)
+      if (basis[p] >= n + m && !values[p].zero()) return false;
+    return true;
+  }
+
+  void turn() {
+    phase = 2;
+    for (int i = 0; i < m; i++) upper[n + m + i] = End{true, Frac{}};
+    work_costs();
+  }
+
+  // The column of a step without a limit; -1 at an optimum, -2 where there is no feasible point.
+  int run() {
+    for (;;) {
+      int q = entering();
+      if (q >= 0) {
+        bool falls = !costs[q].negative();
+        Limit limit = ratio_test(q, falls);
+        if (!limit.found) return q;
+        move(q, falls, limit);
+      } else if (phase == 2) {
+        return -1;
+      } else if (artificials_are_zero()) {
+        turn();
+      } else {
+        return -2;
+      }
+    }
+  }
+
+  std::vector<Frac> point() const {
+    std::vector<Frac> x(n);
+    for (int j = 0; j < n; j++) x[j] = at_rest(j);
+    for (int p = 0; p < m; p++)
+      if (basis[p] < n) x[basis[p]] = values[p];
+    return x;
+  }
+
+  void say(const char* word, const std::vector<Frac>& numbers) const {
+    for (int j = 0; j < n; j++) std::cout << word << text_of(numbers[j]) << ' ' << deck.columns[j].name << '\n';
+  }
+
+  void say_prices(const char* word) const {
+    for (int i = 0; i < m; i++) std::cout << word << text_of(-costs[n + i]) << ' ' << deck.rows[i].name << '\n';
+  }
+
+  void say_ray(int q) const {
+    std::vector<Frac> ray(n);
+    bool falls = !costs[q].negative();
+    if (q < n) ray[q] = Frac{falls ? -1 : 1, 1};
+    for (int p = 0; p < m; p++)
+      if (basis[p] < n) ray[basis[p]] = falls ? rows[p][q] : -rows[p][q];
+    say("RAY ", ray);
+  }
+
+  void report(int end) const {
+    std::cout << "LPCERT 1\nDECK " << deck.name << '\n';
+    if (end == -2) {
+      std::cout << "INFEASIBLE\n";
+      say_prices("FARKAS ");
+    } else if (end >= 0) {
+      std::cout << "UNBOUNDED\n";
+      say("VALUE ", point());
+      say_ray(end);
+    } else {
+      std::vector<Frac> x = point();
+      Frac objective = deck.constant;
+      for (int j = 0; j < n; j++) objective = objective + deck.columns[j].cost * x[j];
+      std::cout << "OPTIMAL\nOBJECTIVE " << text_of(objective) << '\n';
+      say("VALUE ", x);
+      say_prices("PRICE ");
+    }
+    std::cout << "END\n";
+  }
+};
+
+int main(int count, char** words) {
+  Deck deck = read_deck();
+  Table table(deck);
+  int end = table.run();
+  table.report(end);
+  if (count > 1 && std::strcmp(words[1], "moves") == 0) std::fprintf(stderr, "moves %llu\n", static_cast<unsigned long long>(table.moves));
+}

@@ -1,0 +1,6 @@
+mod Capped
+mod Rows
+mod Agreement
+mod Steps
+mod Walks
+mod Matches
