@@ -284,8 +284,8 @@ class Walk:
 
     def basis(self, report):
         """The rules of a report that tells a basis; their sums were all worked before."""
-        deck, (basic, upper) = self.deck, report.basis
-        self.end("BASIS", len(set(basic)) == len(basic) and not set(basic) & set(upper))
+        deck, basic, upper = self.deck, set(report.basis[0]), set(report.basis[1])
+        self.end("BASIS", len(basic) == len(report.basis[0]) and not basic & upper)
         if report.outcome != "INFEASIBLE":
             for j, (column, value) in enumerate(zip(deck.columns, report.values)):
                 rest = column.upper if j in upper else Fraction(0) if column.lower is None else column.lower
@@ -315,29 +315,32 @@ def check(deck, report, width=WIDTH):
         walk.basis(report)
 
 
-def main():
-    text = sys.stdin.buffer.read()
+def answer(text, greatest=False):
+    """The status of a check of a deck and the report behind it, the line on standard output, and the one on standard error."""
     try:
         deck = read(text)
-        if sys.argv[1:] == ["--greatest"]:
+        if greatest:
             deck.sense = -1
         own = text.split(b"\n", deck.last_line)[deck.last_line :]
         report = parse(deck, own[0] if own else b"")
         check(deck, report)
     except Fault as fault:
-        print(fault, file=sys.stderr)
-        return 3
+        return 3, "", str(fault)
     except Flaw as flaw:
-        print(f"lp: report line {deck.last_line + flaw.args[0]}: {flaw.args[1]}", file=sys.stderr)
-        return 3
+        return 3, "", f"lp: report line {deck.last_line + flaw.args[0]}: {flaw.args[1]}"
     except Broken as rule:
-        print(f"REFUSED {rule}")
-        return 1
+        return 1, f"REFUSED {rule}", ""
     except Unfit as rule:
-        print(f"lp: check overflow at {rule}", file=sys.stderr)
-        return 6
-    print(f"ACCEPTED {report.outcome}")
-    return 0
+        return 6, "", f"lp: check overflow at {rule}"
+    return 0, f"ACCEPTED {report.outcome}", ""
+
+
+def main():
+    status, line, fault = answer(sys.stdin.buffer.read(), sys.argv[1:] == ["--greatest"])
+    for said, end in ((line, sys.stdout), (fault, sys.stderr)):
+        if said:
+            print(said, file=end)
+    return status
 
 
 if __name__ == "__main__":

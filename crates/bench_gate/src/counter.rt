@@ -14,9 +14,10 @@ pub struct Summary {
     pub checksum: u64,
 }
 
-/// How many steps were made, and a checksum of their numbers.
+/// How many steps were made, and a checksum of their numbers, which begins with `start`. No step changes where it begins.
 #[derive(Drop)]
 pub struct Counter {
+    pub start: u64,
     count: u64,
     checksum: u64,
 }
@@ -26,6 +27,7 @@ impl Counter {
         ensures { result.count ≡ 0 }
     {
         Counter {
+            start: START,
             count: 0,
             checksum: START,
         }
@@ -33,7 +35,8 @@ impl Counter {
 
     /// One step more.
     pub fn step(&mut self)
-        ensures { self.old.count ≤ self.new.count }
+        ensures count { self.old.count ≤ self.new.count }
+        ensures start { self.new.start ≡ self.old.start }
     {
         self.count = self.count.saturating_add(1);
         self.checksum = (self.checksum ^ self.count).wrapping_mul(PRIME);
@@ -48,11 +51,11 @@ impl Counter {
 }
 
 impl Numbered for Counter {
-    type Lineage = ();
+    type Lineage = u64;
 
     ghost number = { λ c. c.count };
 
-    ghost lineage = { λ _. tt };
+    ghost lineage = { λ c. c.start };
 
     fn number(&self) -> u64 {
         self.count

@@ -1,8 +1,8 @@
 -- The names of a deck's columns, or of its rows.
 use Rattle.std.specs.Prelude.{ℕ, List}
 use Rattle.lp_text.specs.Report.{column_names, row_names}
-use Rattle.cert_text.specs.declared.write.Names.{Names}
-use Rattle.cert_text.specs.declared.write.Names.TheVariants.{Columns, Rows}
+use Rattle.cert_text.specs.declared.names.Names.{Names}
+use Rattle.cert_text.specs.declared.names.Names.TheVariants.{Columns, Rows}
 
 abbrev pub names_of : Names → List (List ℕ)
 names_of (Columns deck) = column_names deck.now

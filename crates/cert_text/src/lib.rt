@@ -40,9 +40,11 @@
 
 mod fault;
 mod line;
+mod names;
 mod report;
 mod write;
 
 pub use fault::ReportWriteFault;
+pub use names::Names;
 pub use report::Report;
 pub use write::write_report;

@@ -1,5 +1,5 @@
 // Writing a report.
-ghost use Rattle.std.specs.Prelude.{◌≡◌, ◌<◌, ◌≤◌, [], ◌∷◌, length, get_or, map, OnOk, IsErrOf};
+ghost use Rattle.std.specs.Prelude.{◌≡◌, ◌≤◌, [], ◌∷◌, length, map, OnOk, IsErrOf};
 ghost use Rattle.io_ends.specs.Bytes.{Appends, AppendsPrefix};
 ghost use Rattle.io_ends.specs.Count.{Rose};
 ghost use Rattle.lp_text.specs.Report.{basis_lines, entry_line, log_lines, number_line, number_lines, outcome_lines, report_lines, text_of_report, value_lines, version_line};
@@ -10,6 +10,7 @@ ghost use Rattle.cert_text.specs.Writes.{Writes};
 
 use crate::fault::ReportWriteFault;
 use crate::line::Line;
+use crate::names::Names;
 use crate::report::Report;
 use deck_model::{Basis, Deck, Entry, Log, Numbers, Outcome};
 use exact_frac::Fracs;
@@ -210,34 +211,4 @@ fn write_line<K: Sink>(
     line.fill(buffer)?;
     write_all(out, buffer)?;
     Ok(())
-}
-
-/// The names of a deck's columns, or of its rows.
-#[derive(Drop)]
-enum Names<'a> {
-    Columns(&'a Deck),
-    Rows(&'a Deck),
-}
-
-impl<'a> Names<'a> {
-    // How many names there are.
-    fn len(&self) -> usize
-        ensures { result ≡ length (names_of self.now) }
-    {
-        match self {
-            Names::Columns(deck) => deck.columns(),
-            Names::Rows(deck) => deck.rows(),
-        }
-    }
-
-    // The name at this index.
-    fn get(&self, index: usize) -> &'a [u8]
-        requires { index < length (names_of self.now) }
-        ensures { result.now ≡ get_or (names_of self.now) index [] }
-    {
-        match self {
-            Names::Columns(deck) => deck.column_name(index).bytes(),
-            Names::Rows(deck) => deck.row_name(index).bytes(),
-        }
-    }
 }

@@ -1,20 +1,19 @@
 -- Applying the transposed operations in reverse order is the transposed matrix: (apply_back y)·v = y·(apply v).
-use Rattle.std.proofs.Common.{◌≡◌, ◌≢◌, ℕ, zero, suc, ◌+◌, ◌<◌, ◌≤◌, List, [], ◌∷◌, ◌++◌, length, get_or, set, map, reverse, ⊎_elim, refl, sym, ◌∙◌, ap, ap₂, subst, arith}
-use Rattle.std.specs.List.{All, AllByRecursion}
-use Rattle.std.proofs.lemmas.Bool.{cases_eq}
+use Rattle.std.proofs.Common.{◌≡◌, ℕ, ◌<◌, List, [], ◌∷◌, ◌++◌, length, set, map, reverse, sym, ◌∙◌, ap, ap₂, subst}
+use Rattle.std.specs.List.{AllByRecursion}
 use Rattle.std.proofs.lemmas.List.{length-set, get_or-set_same, get_or-set_other, reverse-append, map-append}
 use Rattle.rational.specs.Rational.{ℚ, zero_ℚ, ◌+ℚ◌, ◌-ℚ◌, ◌*ℚ◌}
 use Rattle.rational.proofs.RationalRing.{ring_ℚ}
-use Rattle.rational.proofs.Ring.{◌≐◌, ◌⊕◌, ◌⊖◌, ◌⊗◌, 𝟘}
+use Rattle.rational.proofs.Ring.{◌≐◌, ◌⊕◌, ◌⊖◌, ◌⊗◌}
 use Rattle.rational.specs.Sum.{at, sum_ℚ}
-use Rattle.rational.specs.Worked.{Worked, done, bind}
-use Rattle.rational.specs.Lines.{gather, subtract}
+use Rattle.rational.specs.Worked.{done}
+use Rattle.rational.specs.Lines.{gather}
 use Rattle.rational.proofs.SumLaws.{sum-cong, sum-sub, sum-scale, sum-change}
 use Rattle.sparse_cols.specs.Sparse.{Sparse, IsRising}
 use Rattle.factor_model.specs.declared.Op.{Op}
 use Rattle.factor_model.specs.declared.Op.TheVariants.{Column, Row}
 use Rattle.factor_model.specs.Vectors.{other_entry}
-use Rattle.factor_model.specs.Eta.{operate, apply, apply_back, transposed, IsOp, AreOps}
+use Rattle.factor_model.specs.Eta.{operate, apply, apply_back, transposed, IsOp}
 use Rattle.factor_model.proofs.LineLaws.{answer-bind, answer-done, answer-gather, answer-subtract, length-subtract}
 
 -- the product of two vectors of n items

@@ -1,12 +1,12 @@
 -- Closed forms: what a sparse column worked into a vector, or out of one item, leaves.
-use Rattle.std.proofs.Common.{◌≡◌, ◌≢◌, ℕ, zero, suc, ◌+◌, ◌<◌, ◌≤◌, Bool, true, false, cond, eqb, List, [], ◌∷◌, length, get_or, set, ◌⊎◌, inl, inr, ⊎_elim, refl, sym, ◌∙◌, ap, ap₂, subst, arith}
+use Rattle.std.proofs.Common.{◌≡◌, ◌≢◌, ℕ, ◌+◌, ◌<◌, Bool, true, false, cond, eqb, List, [], ◌∷◌, length, set, ◌⊎◌, inl, inr, ⊎_elim, refl, sym, ◌∙◌, ap, ap₂, subst, arith}
 use Rattle.std.proofs.lemmas.Bool.{cases_eq, eq-eqb, ne_eqb, cond-true, cond-false}
 use Rattle.std.proofs.lemmas.List.{length-set, get_or-set_same, get_or-set_other}
 use Rattle.rational.specs.Rational.{ℚ, zero_ℚ, ◌-ℚ◌, ◌*ℚ◌, ◌+ℚ◌, eq_ℚ}
 use Rattle.rational.proofs.RationalRing.{ring_ℚ}
 use Rattle.rational.proofs.Ring.{◌≐◌, ◌⊙◌≗◌⟹◌, ◌⊕◌, ◌⊖◌, ◌⊗◌, 𝟘, 𝟙}
 use Rattle.rational.specs.Sum.{at, sum_ℚ}
-use Rattle.rational.specs.Worked.{Worked, done, work, bind, less, less_unless, quotient}
+use Rattle.rational.specs.Worked.{Worked, done, work, bind, less, less_unless}
 use Rattle.rational.specs.Lines.{gather, subtract}
 use Rattle.rational.proofs.SumLaws.{sum-none, sum-change}
 use Rattle.rational.proofs.OrderLaws.{eq_ℚ-decides}

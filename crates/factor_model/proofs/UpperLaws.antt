@@ -1,25 +1,24 @@
 -- A triangular form solves for columns and for rows.
-use Rattle.std.proofs.Common.{◌≡◌, ◌≢◌, ℕ, zero, suc, ◌+◌, ◌<◌, ◌≤◌, List, [], ◌∷◌, ◌++◌, length, get_or, set, map, replicate, reverse, ◌⊎◌, inl, inr, ⊎_elim, Some, refl, sym, ◌∙◌, ap, ap₂, subst, arith}
+use Rattle.std.proofs.Common.{◌≡◌, ◌≢◌, ℕ, ◌<◌, List, [], ◌∷◌, length, set, replicate, reverse, ◌⊎◌, inl, inr, ⊎_elim, Some, refl, sym, ◌∙◌, ap, ap₂, subst, arith}
 use Rattle.std.specs.List.{range_with_len}
-use Rattle.std.specs.List.Sorted.{IsPermutation}
 use Rattle.std.proofs.lemmas.List.{length-set, get_or-set_same, get_or-set_other, length-replicate}
 use Rattle.std.proofs.lemmas.List.Sorted.{IsPermutation-trans, IsPermutation-reverse}
 use Rattle.std.proofs.lemmas.List.FromFn.{get_or-map-range_with_len}
 use Rattle.std.proofs.lemmas.Bool.{cases_eq}
 use Rattle.rational.specs.Rational.{ℚ, zero_ℚ, ◌+ℚ◌, ◌-ℚ◌, ◌*ℚ◌, ◌/ℚ◌}
 use Rattle.rational.proofs.RationalRing.{ring_ℚ}
-use Rattle.rational.proofs.Ring.{◌≐◌, ◌⊙◌≗◌⟹◌, ◌⊕◌, ◌⊖◌, ◌⊗◌, ⊝◌, 𝟘, 𝟙}
+use Rattle.rational.proofs.Ring.{◌≐◌, ◌⊙◌≗◌⟹◌, ◌⊕◌, ◌⊖◌, ◌⊗◌, 𝟘, 𝟙}
 use Rattle.rational.specs.Sum.{at, sum_ℚ}
-use Rattle.rational.specs.Worked.{Worked, done, work, bind, quotient, settle}
+use Rattle.rational.specs.Worked.{done, quotient, settle}
 use Rattle.rational.proofs.Settling.{settle-answer}
 use Rattle.rational.specs.Lines.{gather, subtract}
 use Rattle.rational.proofs.FieldLaws.{/ℚ-*ℚ}
 use Rattle.rational.proofs.SumLaws.{sum-cong, sum-change}
 use Rattle.sparse_cols.specs.Sparse.{IsRising}
-use Rattle.factor_model.specs.Vectors.{entry, other_entry}
+use Rattle.factor_model.specs.Vectors.{other_entry}
 use Rattle.factor_model.specs.Upper.{Triangle, IsUpper, ComesBefore, In, Pairwise, column, row_of, cell, diagonal, place_one, solve_one, solve_rows, by_position, solve, back_item, solve_positions, solve_back, Solves, SolvesBack}
 use Rattle.factor_model.proofs.LineLaws.{answer-bind, answer-done, answer-work, answer-gather, answer-subtract, length-subtract, other-skip, other-other}
-use Rattle.factor_model.proofs.Orders.{in_reverse, sum_over, sum_over-cons, sum_over-nil, sum_over-none, sum_over-cong, sum_whole, whole_below, Pairwise-reverse}
+use Rattle.factor_model.proofs.Orders.{in_reverse, sum_over, sum_over-cons, sum_over-none, sum_over-cong, sum_whole, whole_below, Pairwise-reverse}
 use Rattle.factor_model.proofs.UpperShape.{row_below, position_of_row, order_below, in_order}
 
 pub answer-quotient : (a b : ℚ) → (quotient a b).answer ≡ a /ℚ b
@@ -108,7 +107,8 @@ module _ (n : ℕ) (u : Triangle) (upper : IsUpper n u) where
       ∙ ⊎_elim
       (λ (same : p ≡ s).
       subst (λ k. cell u (row_of u k) s *ℚ at rows (row_of u s) +ℚ sum_over (λ q. cell u (row_of u k) q *ℚ at rows (row_of u q)) ps ≡ at v (row_of u k)) (sym same)
-      (ap₂ (λ a b. diagonal u s *ℚ a +ℚ b) kept (sum_over-none (λ q. cell u (row_of u s) q *ℚ at rows (row_of u q)) ps (λ q h. nothing (cell u (row_of u s) q) (at rows (row_of u q)) (walk.0 q h).no_entry))
+      (ap₂ (λ a b. diagonal u s *ℚ a +ℚ b) kept (sum_over-none (λ q. cell u (row_of u s) q *ℚ at rows (row_of u q)) ps
+      (λ q h. nothing (cell u (row_of u s) q) (at rows (row_of u q)) (walk.0 q h).no_entry))
       ∙ whole_item (diagonal u s) x (at v (row_of u s)) (/ℚ-*ℚ (at v (row_of u s)) (diagonal u s) (upper.nonzero s (below s (inl refl))))))
       (λ (later : In p ps).
       ap₂ (λ a b. cell u (row_of u p) s *ℚ a +ℚ b) kept
@@ -118,7 +118,7 @@ module _ (n : ℕ) (u : Triangle) (upper : IsUpper n u) where
       held
 
   -- U·x = v, row by row
-  solves_row : (v : List ℚ) → length v ≡ n → (r : ℕ) → r < n → sum_ℚ n (λ p. cell u r p *ℚ at (solve u v).answer p) ≡ at v r
+  pub solves_row : (v : List ℚ) → length v ≡ n → (r : ℕ) → r < n → sum_ℚ n (λ p. cell u r p *ℚ at (solve u v).answer p) ≡ at v r
   solves_row v e r lt =
       let rows = (solve_rows u v (reverse u.order)).answer in
       let back = IsPermutation-trans (range_with_len 0 n) u.order (reverse u.order) upper.whole (IsPermutation-reverse u.order) in
@@ -131,7 +131,8 @@ module _ (n : ℕ) (u : Triangle) (upper : IsUpper n u) where
       ∙ get_or-map-range_with_len (λ q. at rows (row_of u q)) 0 (length u.rows) p p zero_ℚ (omega (arith, upper.row_count, below)) (omega arith)))
       ∙ sym (sum_whole n f (reverse u.order) back)
       ∙ subst (λ k. sum_over (λ q. cell u k q *ℚ at rows (row_of u q)) (reverse u.order) ≡ at v k) (sym there.2)
-      (solves_left v (reverse u.order) e (λ q held. whole_below n (reverse u.order) back q held) (Pairwise-reverse (ComesBefore u) u.order upper.triangular) there.0 (in_reverse there.0 u.order there.1))
+      (solves_left v (reverse u.order) e (λ q held. whole_below n (reverse u.order) back q held)
+      (Pairwise-reverse (ComesBefore u) u.order upper.triangular) there.0 (in_reverse there.0 u.order there.1))
 
   -- ---- solving for a row
 
@@ -206,10 +207,22 @@ module _ (n : ℕ) (u : Triangle) (upper : IsUpper n u) where
       (λ (later : In p ps). back_left c next ps (length-set z row item ∙ e) (λ q h. below q (inr h)) walk.1 p later)
       held
 
+  length_positions : (c z : List ℚ) (ps : List ℕ) → length (solve_positions u c z ps).answer ≡ length z
+  length_positions c z [] = ap length (answer-done z)
+  length_positions c z (p ∷ ps) =
+      let item = (back_item u c z p).answer in
+      ap length (answer-bind (back_item u c z p) (λ a. solve_positions u c (set z (row_of u p) a) ps))
+      ∙ length_positions c (set z (row_of u p) item) ps ∙ length-set z (row_of u p) item
+
+  pub length-solve_back : (c : List ℚ) → length (solve_back u c).answer ≡ n
+  length-solve_back c =
+      length_positions c (replicate (length u.rows) zero_ℚ) u.order ∙ length-replicate (length u.rows) zero_ℚ ∙ upper.row_count
+
   -- z·U = c, position by position
-  solves_position : (c : List ℚ) (p : ℕ) → p < n → sum_ℚ n (λ r. at (solve_back u c).answer r *ℚ cell u r p) ≡ at c p
+  pub solves_position : (c : List ℚ) (p : ℕ) → p < n → sum_ℚ n (λ r. at (solve_back u c).answer r *ℚ cell u r p) ≡ at c p
   solves_position c p lt =
-      back_left c (replicate (length u.rows) zero_ℚ) u.order (length-replicate (length u.rows) zero_ℚ ∙ upper.row_count) (λ q held. order_below n u upper q held) upper.triangular p (in_order n u upper p lt)
+      back_left c (replicate (length u.rows) zero_ℚ) u.order (length-replicate (length u.rows) zero_ℚ ∙ upper.row_count)
+      (λ q held. order_below n u upper q held) upper.triangular p (in_order n u upper p lt)
 
 module _ (w : ℕ) (u : Triangle) (upper : IsUpper (length u.rows) u) where
   pub solve_solves : (v x : List ℚ) → length v ≡ length u.rows → settle w (solve u v) ≡ Some x → Solves u x v

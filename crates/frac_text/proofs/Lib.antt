@@ -1,3 +1,4 @@
 mod Numbers
 mod Parts
 mod Joined
+mod Decimals

@@ -11,19 +11,25 @@
 //! [`read`] answers the fraction of a text, and none exactly where no fraction whose parts are below 2^127 has it. It takes
 //! no memory.
 //!
+//! [`card`] answers the spelling of a fraction on a card of a deck, which has 12 bytes for it: its digits, with a point where it has decimal
+//! places, or a whole number and a power of ten where that would be too long. `Wide` comes exactly where a fraction has no such spelling
+//! (`specs/Card.antt`).
+//!
 //! The crate stands on `exact_frac`, on `lp_text` for the definition of the text, on `itoa`, which prints integers of up to 128
-//! bits, on `rational` and `no_memory`.
+//! bits, on `rational`, `no_memory` and `thiserror`.
 #![tactic(auto)]
 
 ghost use Rattle.std.specs.Prelude.{◌≡◌, ◌++◌, IfOk, OnOk, OnErr};
 ghost use Rattle.lp_text.specs.Fraction.{fraction_text};
 
 mod reading;
+mod spelling;
 
 use exact_frac::Frac;
 use itoa::Buffer;
 use no_memory::Memory;
 pub use reading::read;
+pub use spelling::{SpellFault, card};
 use std::alloc::Global;
 
 /// The text of a fraction.
@@ -63,3 +69,6 @@ pub fn append(bytes: &mut Vec<u8>, value: Frac) -> Result<(), Memory>
     bytes.extend_from_slice(denominator).unwrap();
     Ok(())
 }
+
+#[cfg(test)]
+mod tests;

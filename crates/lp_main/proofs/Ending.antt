@@ -7,24 +7,30 @@ use Rattle.lp_run.specs.Listing.{RunFits}
 use Rattle.lp_model.specs.declared.Place.{Place}
 use Rattle.crew.proofs.Complete.{not_spent, not_unfit}
 use Rattle.mps_model.specs.DeckOf.{HasFault, Reading, crossed_bounds, has_fault, in_line, is_deck, no_end, no_objective, reading_of, TextFault}
-use Rattle.mps_reader.specs.Answers.{IsReadAsNeeded}
 use Rattle.mps_reader.specs.declared.faults.DeckFault.TheVariants as deck
 use Rattle.mps_reader.specs.declared.faults.DeckFault.{DeckFault}
 use Rattle.mps_reader.specs.Faults.{text_fault}
-use Rattle.lp_main.specs.FaultLines.{fault_line, reader_line}
+use Rattle.mps_reader.proofs.NeededLemmas.{unread}
 use Rattle.io_ends.specs.Count.{Rose}
-use Rattle.lp_main.specs.World.{Stream, world}
-use Rattle.lp_main.specs.declared.words.Asked.{Asked}
 use Rattle.lp_main.specs.declared.refusal.Refusal.{Refusal}
 use Rattle.lp_main.specs.declared.refusal.Refusal.TheVariants as refusal
+use Rattle.lp_main.specs.declared.status.Answer.{Answer}
+use Rattle.lp_main.specs.declared.status.Answer.TheVariants as answer
 use Rattle.lp_main.specs.declared.status.Status.{Status}
 use Rattle.lp_main.specs.declared.status.Status.TheVariants as status
-use Rattle.lp_main.specs.Ends.{End, FailsBy, LeavesBy, ReadsBy, SaysBy, WritesBy, status_of_end}
+use Rattle.lp_main.specs.declared.words.Asked.{Asked}
+use Rattle.lp_main.specs.declared.words.Task.{Task}
+use Rattle.lp_main.specs.declared.words.Task.TheVariants as task
+use Rattle.lp_main.specs.Checks.{GivesVerdict, IsCheckCause}
+use Rattle.lp_main.specs.Codes.{status_of_answer}
+use Rattle.lp_main.specs.Ends.{End, FailsBy, IsBegun, IsCutOffIn, LeavesBy, ReadsAsNeeded, ReadsBy, SaysBy, WritesBy, status_of_end}
+use Rattle.lp_main.specs.FaultLines.{fault_line, reader_line}
 use Rattle.lp_main.specs.Refusal.{line_of, status_of_refusal}
-use Rattle.lp_main.specs.Runs.{Runs}
+use Rattle.lp_main.specs.Runs.{MustAnswer, Runs}
 use Rattle.lp_main.specs.Says.{Says}
-use Rattle.lp_main.specs.Serves.{Answers, BeginsReport, EndsWithin, IsCutOff, IsFirstFault, IsOverBudget, IsOverflow, IsOrMemory, Reports}
+use Rattle.lp_main.specs.Serves.{Answers, AnswersFault, EndsWithin, IsFirstFault, IsOverBudget, IsOverflow, IsOrMemory, Reports}
 use Rattle.lp_main.specs.Solves.{IsCause}
+use Rattle.lp_main.specs.World.{Stream, world}
 
 -- what was said is the refusal, or want of memory
 abbrev pub Said : Refusal → Status → Stream → Stream → Type 0
@@ -39,11 +45,34 @@ memory_in_place asked w text left old new refusal.Memory cause = cause
 memory_in_place asked w text left old new refusal.Usage cause = absurd cause
 memory_in_place asked w text left old new (refusal.Overflow here) cause = inl cause.1
 memory_in_place asked w text left old new (refusal.Budget k) cause = inl cause.1
+memory_in_place asked w text left old new (refusal.Report number flaw) cause = absurd cause
+memory_in_place asked w text left old new (refusal.Unfit rule name) cause = absurd cause
 
-memory_leaves : (what : Option Asked) (w : ℕ) (input input' output output' : Stream) (r : Refusal)
+memory_for_verdict : (w : ℕ) (text left : Option (List ℕ)) (n n' : ℕ) (old new : Option (List ℕ)) (r : Refusal)
+    → IsCheckCause w text left n n' old new r → IsCheckCause w text left n n' old new refusal.Memory
+memory_for_verdict w text left n n' old new (refusal.Deck fault) cause = inl cause.1
+memory_for_verdict w text left n n' old new refusal.Read cause = inl cause.1
+memory_for_verdict w text left n n' old new (refusal.Report number flaw) cause = inl cause.1
+memory_for_verdict w text left n n' old new (refusal.Unfit rule name) cause = inl cause.1
+memory_for_verdict w text left n n' old new refusal.Write cause = inr cause
+memory_for_verdict w text left n n' old new refusal.Memory cause = cause
+memory_for_verdict w text left n n' old new refusal.Usage cause = absurd cause
+memory_for_verdict w text left n n' old new (refusal.Overflow here) cause = absurd cause
+memory_for_verdict w text left n n' old new (refusal.Budget k) cause = absurd cause
+
+memory_leaves : (what : Option Task) (w : ℕ) (input input' output output' : Stream) (r : Refusal)
     → LeavesBy what w input input' output output' (Err r) → LeavesBy what w input input' output output' (Err refusal.Memory)
 memory_leaves None w input input' output output' r leaves = (inr refl, leaves.1, leaves.2)
-memory_leaves (Some asked) w input input' output output' r cause = memory_in_place asked w input.bytes input'.bytes output.bytes output'.bytes r cause
+memory_leaves (Some (task.Solve asked)) w input input' output output' r cause = memory_in_place asked w input.bytes input'.bytes output.bytes output'.bytes r cause
+memory_leaves (Some task.Check) w input input' output output' r cause =
+    memory_for_verdict w input.bytes input'.bytes input.faults input'.faults output.bytes output'.bytes r cause
+
+-- ── what is served ──
+
+pub nothing_read : (what : Option Task) (input : Stream) → ReadsAsNeeded what input input
+nothing_read None input = unread [] input.bytes
+nothing_read (Some (task.Solve asked)) input = unread [] input.bytes
+nothing_read (Some task.Check) input = tt
 
 -- ── which end failed ──
 
@@ -58,21 +87,25 @@ said_status r s old new (said, inl is, status, says) = inl (status ∙ ap status
 said_status r s old new (said, inr is, status, says) = inr (status ∙ ap status_of_refusal is)
 
 module _ (w : ℕ) (input input' output output' : Stream) (s : Status) where
-  reads_by : (what : Option Asked) (r : Refusal) → LeavesBy what w input input' output output' (Err r)
-      → (IsErrOf {T = Unit {0}} (Err r) refusal.Read → Rose input.faults input'.faults) → (¬ IsErrOf {T = Unit {0}} (Err r) refusal.Read → input'.faults ≡ input.faults)
-      → IsOrMemory s (status_of_refusal r) → ReadsBy input input' s
-  reads_by (Some asked) refusal.Read cause rose stays is = inr (rose refl, cause.0, is)
+  reads_by : (what : Option Task) (r : Refusal) → LeavesBy what w input input' output output' (Err r)
+      → (IsErrOf {T = Answer} (Err r) refusal.Read → Rose input.faults input'.faults) → (¬ IsErrOf {T = Answer} (Err r) refusal.Read → input'.faults ≡ input.faults)
+      → IsOrMemory s (status_of_refusal r) → ReadsBy what input input' s
+  reads_by (Some (task.Solve asked)) refusal.Read cause rose stays is = inr (rose refl, cause.0, is)
+  reads_by (Some task.Check) refusal.Read cause rose stays is = inr (rose refl, cause.0, is)
   reads_by None refusal.Read (inl same, read, written) rose stays is = absurd (cc same)
   reads_by None refusal.Read (inr same, read, written) rose stays is = absurd (cc same)
   reads_by what r leaves rose stays is =
-      not_failed status.ReadFault s (status_of_refusal r) (IfSome input.bytes (IsCutOff input'.bytes)) input input' (λ e. cc) (λ e. cc) (stays (λ e. cc)) is
+      not_failed status.ReadFault s (status_of_refusal r) (IsCutOffIn what input input') input input' (λ e. cc) (λ e. cc) (stays (λ e. cc)) is
 
-  writes_by : (asked : Asked) (r : Refusal) → IsCause asked w input.bytes input'.bytes output.bytes output'.bytes r
-      → (IsErrOf {T = Unit {0}} (Err r) refusal.Write → Rose output.faults output'.faults) → (¬ IsErrOf {T = Unit {0}} (Err r) refusal.Write → output'.faults ≡ output.faults)
-      → IsOrMemory s (status_of_refusal r) → WritesBy asked input.bytes output output' s
-  writes_by asked refusal.Write cause rose stays is = inr (rose refl, cause, is)
-  writes_by asked r cause rose stays is =
-      not_failed status.WriteFault s (status_of_refusal r) (IfSome input.bytes (BeginsReport asked output.bytes output'.bytes)) output output' (λ e. cc) (λ e. cc) (stays (λ e. cc)) is
+  writes_by : (what : Option Task) (r : Refusal) → LeavesBy what w input input' output output' (Err r)
+      → (IsErrOf {T = Answer} (Err r) refusal.Write → Rose output.faults output'.faults) → (¬ IsErrOf {T = Answer} (Err r) refusal.Write → output'.faults ≡ output.faults)
+      → IsOrMemory s (status_of_refusal r) → WritesBy what w input.bytes output output' s
+  writes_by (Some (task.Solve asked)) refusal.Write cause rose stays is = inr (rose refl, cause, is)
+  writes_by (Some task.Check) refusal.Write cause rose stays is = inr (rose refl, cause, is)
+  writes_by None refusal.Write (inl same, read, written) rose stays is = absurd (cc same)
+  writes_by None refusal.Write (inr same, read, written) rose stays is = absurd (cc same)
+  writes_by what r leaves rose stays is =
+      not_failed status.WriteFault s (status_of_refusal r) (IsBegun what w input.bytes output output') output output' (λ e. cc) (λ e. cc) (stays (λ e. cc)) is
 
 -- ── the status of each text ──
 
@@ -142,32 +175,85 @@ module _ (asked : Asked) (w : ℕ) (SaidOf : List ℕ → Type 0) where
   by_refusal text left old new refusal.Usage A B cause says read write no_read no_write = absurd cause
   by_refusal text left old new (refusal.Overflow here) A B cause says read write no_read no_write = answered_overflow text here cause.0
   by_refusal text left old new (refusal.Budget k) A B cause says read write no_read no_write = answered_budget text k cause.0
+  by_refusal text left old new (refusal.Report number flaw) A B cause says read write no_read no_write = absurd cause
+  by_refusal text left old new (refusal.Unfit rule name) A B cause says read write no_read no_write = absurd cause
+
+-- ── the status of each text of a check ──
+
+module _ (w : ℕ) (SaidOf : List ℕ → Type 0) where
+  abbrev Must : List ℕ → Status → Type 0
+  Must t s = AnswersFault (reading_of t) s SaidOf
+
+  -- where the text is a deck nothing is owed
+  deck_must : (reading : Reading) (d : Deck) (line : ℕ) (s : Status) → reading ≡ is_deck d line → AnswersFault reading s SaidOf
+  deck_must (has_fault fault) d line s e = absurd (cc e)
+  deck_must (is_deck d' k) d line s e = tt
+
+  memory_must : (reading : Reading) → AnswersFault reading status.Memory SaidOf
+  memory_must (has_fault fault) = inr refl
+  memory_must (is_deck d k) = tt
+
+  fault_must : (reading : Reading) (fault : TextFault) → reading ≡ has_fault fault → SaidOf (fault_line fault) → AnswersFault reading status.BadInput SaidOf
+  fault_must (has_fault fault') fault e says = inl (refl, subst (λ f. SaidOf (fault_line f)) (sym (same_fault fault' fault e)) says)
+  fault_must (is_deck d k) fault e says = absurd (cc e)
+
+  verdict_must : (text old new : Option (List ℕ)) (a : Answer) → IfSome text (GivesVerdict w old new a) → IfSome text (λ t. Must t (status_of_answer a))
+  verdict_must None old new a h = tt
+  verdict_must (Some t) old new a (line, (d, report, tells, verdict), appended) = deck_must (reading_of t) d tells.behind.line (status_of_answer a) tells.behind.deck
+
+  by_check : (text left : Option (List ℕ)) (n n' : ℕ) (old new : Option (List ℕ)) (r : Refusal) (A B : Type 0) → IsCheckCause w text left n n' old new r → SaidOf (line_of r)
+      → (r ≡ refusal.Read → A) → (r ≡ refusal.Write → B) → (¬ A) → (¬ B) → IfSome text (λ t. Must t (status_of_refusal r))
+  by_check None left n n' old new r A B cause says read write no_read no_write = tt
+  by_check (Some t) left n n' old new (refusal.Deck fault) A B cause says read write no_read no_write =
+      let k = named fault (HasFault t) cause.0 in fault_must (reading_of t) k.0 k.1 (subst SaidOf k.2 says)
+  by_check (Some t) left n n' old new refusal.Read A B cause says read write no_read no_write = absurd (no_read (read refl))
+  by_check (Some t) left n n' old new refusal.Write A B cause says read write no_read no_write = absurd (no_write (write refl))
+  by_check (Some t) left n n' old new refusal.Memory A B cause says read write no_read no_write = memory_must (reading_of t)
+  by_check (Some t) left n n' old new (refusal.Report number flaw) A B ((d, behind, has, k, is, first), kept) says read write no_read no_write =
+      deck_must (reading_of t) d has.line status.BadInput has.deck
+  by_check (Some t) left n n' old new (refusal.Unfit rule name) A B ((d, report, tells, stop, is), kept) says read write no_read no_write =
+      deck_must (reading_of t) d tells.behind.line status.Overflow tells.behind.deck
+  by_check (Some t) left n n' old new refusal.Usage A B cause says read write no_read no_write = absurd cause
+  by_check (Some t) left n n' old new (refusal.Overflow here) A B cause says read write no_read no_write = absurd cause
+  by_check (Some t) left n n' old new (refusal.Budget k) A B cause says read write no_read no_write = absurd cause
 
 -- ── a call ──
 
-module _ (w : ℕ) (input input' output output' : Stream) (needed : IsReadAsNeeded [] input.bytes input'.bytes) (in_falls : input.faults ≤ input'.faults)
-    (out_falls : output.faults ≤ output'.faults) where
-  -- a report was written
-  pub runs_done : (what : Option Asked) (errors : Stream) → LeavesBy what w input input' output output' (Ok tt) → input'.faults ≡ input.faults → output'.faults ≡ output.faults
-      → Runs what w (world input output errors) (world input' output' errors) status.Done
-  runs_done None errors (inl same, read, written) reads writes = absurd (cc same)
-  runs_done None errors (inr same, read, written) reads writes = absurd (cc same)
-  runs_done (Some asked) errors leaves reads writes = record {
-    ends = (Ok tt, refl, leaves, refl);
+module _ (w : ℕ) (input input' output output' : Stream) (in_falls : input.faults ≤ input'.faults) (out_falls : output.faults ≤ output'.faults) where
+  -- an answer was given
+  pub runs_done : (what : Option Task) (errors : Stream) (a : Answer) → LeavesBy what w input input' output output' (Ok a) → ReadsAsNeeded what input input'
+      → input'.faults ≡ input.faults → output'.faults ≡ output.faults → Runs what w (world input output errors) (world input' output' errors) (status_of_answer a)
+  runs_done what errors a leaves needed reads writes = record {
+    ends = (Ok a, refl, leaves, refl);
     needed = needed;
     input_never_falls = in_falls;
     output_never_falls = out_falls;
-    reads = inl (reads, λ e. cc);
-    writes = inl (writes, λ e. cc);
-    answered = λ no_read no_write. answered_done asked w (Says errors errors) input.bytes output.bytes output'.bytes leaves;
+    reads = inl (reads, no_read a);
+    writes = inl (writes, no_write a);
+    answered = answers what a leaves;
   }
+    where
+      no_read : (a : Answer) → status_of_answer a ≢ status.ReadFault
+      no_read answer.Done e = cc
+      no_read answer.Refused e = cc
 
-  module _ (r : Refusal) (rose_in : IsErrOf {T = Unit {0}} (Err r) refusal.Read → Rose input.faults input'.faults)
-      (stays_in : ¬ IsErrOf {T = Unit {0}} (Err r) refusal.Read → input'.faults ≡ input.faults)
-      (rose_out : IsErrOf {T = Unit {0}} (Err r) refusal.Write → Rose output.faults output'.faults) (stays_out : ¬ IsErrOf {T = Unit {0}} (Err r) refusal.Write → output'.faults ≡ output.faults)
+      no_write : (a : Answer) → status_of_answer a ≢ status.WriteFault
+      no_write answer.Done e = cc
+      no_write answer.Refused e = cc
+
+      answers : (what : Option Task) (a : Answer) → LeavesBy what w input input' output output' (Ok a)
+          → IfSome what (λ t. ¬ Rose input.faults input'.faults → ¬ Rose output.faults output'.faults
+          → IfSome input.bytes (λ text. MustAnswer t w text (status_of_answer a) (Says errors errors)))
+      answers None a leaves = tt
+      answers (Some (task.Solve asked)) answer.Done leaves = λ no_read no_write. answered_done asked w (Says errors errors) input.bytes output.bytes output'.bytes leaves
+      answers (Some (task.Solve asked)) answer.Refused leaves = absurd leaves
+      answers (Some task.Check) a leaves = λ no_read no_write. verdict_must w (Says errors errors) input.bytes output.bytes output'.bytes a leaves
+
+  module _ (r : Refusal) (rose_in : IsErrOf {T = Answer} (Err r) refusal.Read → Rose input.faults input'.faults) (stays_in : ¬ IsErrOf {T = Answer} (Err r) refusal.Read → input'.faults ≡ input.faults)
+      (rose_out : IsErrOf {T = Answer} (Err r) refusal.Write → Rose output.faults output'.faults) (stays_out : ¬ IsErrOf {T = Answer} (Err r) refusal.Write → output'.faults ≡ output.faults)
       (s : Status) (errors errors' : Stream) where
     -- the end that was said
-    said_end : (what : Option Asked) → LeavesBy what w input input' output output' (Err r) → Said r s errors errors'
+    said_end : (what : Option Task) → LeavesBy what w input input' output output' (Err r) → Said r s errors errors'
         → (end : End) × (s ≡ status_of_end end) × LeavesBy what w input input' output output' end × SaysBy errors errors' end
     said_end what leaves (said, inl is, status, says) = (Err r, status ∙ ap status_of_refusal is, leaves, subst (λ r. Says errors errors' (line_of r)) is says)
     said_end what leaves (said, inr is, status, says) =
@@ -183,25 +269,32 @@ module _ (w : ℕ) (input input' output output' : Stream) (needed : IsReadAsNeed
         subst (λ s. IfSome input.bytes (λ t. Answers asked w (reading_of t) s (Says errors errors'))) (sym (status ∙ ap status_of_refusal is))
         (answered_memory asked w (Says errors errors') input.bytes)
 
+    check_refused : (text : Option (List ℕ)) → IsCheckCause w text input'.bytes input.faults input'.faults output.bytes output'.bytes r → Said r s errors errors'
+        → (¬ Rose input.faults input'.faults) → (¬ Rose output.faults output'.faults) → IfSome text (λ t. AnswersFault (reading_of t) s (Says errors errors'))
+    check_refused text cause (said, inl is, status, says) no_read no_write =
+        subst (λ s. IfSome text (λ t. AnswersFault (reading_of t) s (Says errors errors'))) (sym (status ∙ ap status_of_refusal is))
+        (by_check w (Says errors errors') text input'.bytes input.faults input'.faults output.bytes output'.bytes r (Rose input.faults input'.faults) (Rose output.faults output'.faults) cause
+        (subst (λ r. Says errors errors' (line_of r)) is says) (λ same. rose_in (ap Err same)) (λ same. rose_out (ap Err same)) no_read no_write)
+    check_refused None cause (said, inr is, status, says) no_read no_write = tt
+    check_refused (Some t) cause (said, inr is, status, says) no_read no_write =
+        subst (λ s. AnswersFault (reading_of t) s (Says errors errors')) (sym (status ∙ ap status_of_refusal is)) (memory_must w (Says errors errors') (reading_of t))
+
     -- a refusal was said
-    pub runs_refused : (what : Option Asked) → LeavesBy what w input input' output output' (Err r) → Said r s errors errors'
+    pub runs_refused : (what : Option Task) → LeavesBy what w input input' output output' (Err r) → ReadsAsNeeded what input input' → Said r s errors errors'
         → Runs what w (world input output errors) (world input' output' errors') s
-    runs_refused what leaves said = record {
+    runs_refused what leaves needed said = record {
       ends = said_end what leaves said;
       needed = needed;
       input_never_falls = in_falls;
       output_never_falls = out_falls;
       reads = reads_by w input input' output output' s what r leaves rose_in stays_in (said_status r s errors errors' said);
-      writes = writes what leaves;
+      writes = writes_by w input input' output output' s what r leaves rose_out stays_out (said_status r s errors errors' said);
       answered = answers what leaves;
     }
       where
-        writes : (what : Option Asked) → LeavesBy what w input input' output output' (Err r) → IfSome what (λ asked. WritesBy asked input.bytes output output' s)
-        writes None leaves = tt
-        writes (Some asked) cause = writes_by w input input' output output' s asked r cause rose_out stays_out (said_status r s errors errors' said)
-
-        answers : (what : Option Asked) → LeavesBy what w input input' output output' (Err r)
-            → IfSome what (λ asked. ¬ Rose input.faults input'.faults → ¬ Rose output.faults output'.faults
-            → IfSome input.bytes (λ text. Answers asked w (reading_of text) s (Says errors errors')))
+        answers : (what : Option Task) → LeavesBy what w input input' output output' (Err r)
+            → IfSome what (λ t. ¬ Rose input.faults input'.faults → ¬ Rose output.faults output'.faults
+            → IfSome input.bytes (λ text. MustAnswer t w text s (Says errors errors')))
         answers None leaves = tt
-        answers (Some asked) cause = answered_refused asked cause said
+        answers (Some (task.Solve asked)) cause = answered_refused asked cause said
+        answers (Some task.Check) cause = check_refused input.bytes cause said

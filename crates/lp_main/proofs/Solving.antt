@@ -1,11 +1,13 @@
 -- From what the parts of a solve answer to what the solve answers.
 use Rattle.std.proofs.Common.{◌≡◌, ℕ, List, Option, Some, None, Ok, Err, refl, sym, ◌∙◌, ap, subst, inl, inr}
-use Rattle.std.specs.Prelude.{IfErr, IfSome, IsErrAnd, OnOk, Result}
+use Rattle.std.specs.Prelude.{IfErr, IfSome, IsErrAnd, IsErrOf, Result}
 use Rattle.io_ends.specs.Bytes.{Appends, AppendsPrefix}
 use Rattle.lp_model.specs.Deck.{Deck}
 use Rattle.lp_text.specs.Report.{Report, text_of_report}
+use Rattle.mps_model.specs.DeckOf.{IsDeckOf}
 use Rattle.lp_main.specs.declared.refusal.Refusal.{Refusal}
 use Rattle.lp_main.specs.declared.refusal.Refusal.TheVariants as refusal
+use Rattle.lp_main.specs.declared.status.Answer.{Answer}
 use Rattle.lp_main.specs.declared.words.Asked.{Asked}
 use Rattle.lp_main.specs.Serves.{BeginsReport, IsReport, Reports}
 use Rattle.lp_main.specs.Solves.{IsCause, IsRead, IsReportCause, IsReportOf, IsWriteCause}
@@ -15,18 +17,13 @@ module _ (asked : Asked) (old new : Option (List ℕ)) (d : Deck) (report : Repo
   is_report : (t : List ℕ) → IsRead t d → IsReport asked t (text_of_report d report)
   is_report t read = (d, read.0, is.log, report.outcome, is.last, read.1, is.solved, is.run, ap (text_of_report d) is.is)
 
-  reports : (text : Option (List ℕ)) → IfSome text (λ t. IsRead t d) → Appends old new (text_of_report d report) → IfSome text (Reports asked old new)
+  pub reports : (text : Option (List ℕ)) → IfSome text (λ t. IsRead t d) → Appends old new (text_of_report d report) → IfSome text (Reports asked old new)
   reports None read appended = tt
   reports (Some t) read appended = (text_of_report d report, is_report t read, appended)
 
   begins : (text : Option (List ℕ)) → IfSome text (λ t. IsRead t d) → AppendsPrefix old new (text_of_report d report) → IfSome text (BeginsReport asked old new)
   begins None read appended = tt
   begins (Some t) read appended = (text_of_report d report, is_report t read, appended)
-
-  pub done_from : (result : Result (Unit {0}) Refusal) (text : Option (List ℕ)) → IfSome text (λ t. IsRead t d)
-      → OnOk result (Appends old new (text_of_report d report)) → OnOk result (IfSome text (Reports asked old new))
-  done_from (Ok u) text read appended = reports text read appended
-  done_from (Err e) text read appended = tt
 
   write_cause : (w : ℕ) (text left : Option (List ℕ)) (e : Refusal) → IsWriteCause e → IfSome text (BeginsReport asked old new) → IsCause asked w text left old new e
   write_cause w text left refusal.Write h begun = begun
@@ -36,11 +33,15 @@ module _ (asked : Asked) (old new : Option (List ℕ)) (d : Deck) (report : Repo
   write_cause w text left refusal.Usage h begun = absurd h
   write_cause w text left (refusal.Overflow here) h begun = absurd h
   write_cause w text left (refusal.Budget n) h begun = absurd h
+  write_cause w text left (refusal.Report number flaw) h begun = absurd h
+  write_cause w text left (refusal.Unfit rule name) h begun = absurd h
 
-  pub cause_from : (w : ℕ) (result : Result (Unit {0}) Refusal) (text left : Option (List ℕ)) → IfSome text (λ t. IsRead t d)
-      → IfErr result IsWriteCause → AppendsPrefix old new (text_of_report d report) → IfErr result (IsCause asked w text left old new)
-  cause_from w (Ok u) text left read cause appended = tt
-  cause_from w (Err e) text left read cause appended = write_cause w text left e cause (begins text read appended)
+  -- the report was not written to its end
+  pub unwritten_cause : (w : ℕ) (result : Result Answer Refusal) (e : Refusal) (text left : Option (List ℕ)) → IfSome text (λ t. IsRead t d)
+      → IsWriteCause e → AppendsPrefix old new (text_of_report d report) → IsErrAnd result (λ r. r ≡ e) → IfErr result (IsCause asked w text left old new)
+  unwritten_cause w (Ok a) e text left read cause appended is = tt
+  unwritten_cause w (Err r) e text left read cause appended is =
+      subst (IsCause asked w text left old new) (sym is) (write_cause w text left e cause (begins text read appended))
 
 pub report_cause : (asked : Asked) (w : ℕ) (e : Refusal) (text left old : Option (List ℕ)) (d : Deck) → IfSome text (λ t. IsRead t d) → IsReportCause asked w d e → IsCause asked w text left old old e
 report_cause asked w (refusal.Overflow here) None left old d read cause = (tt, refl)
@@ -52,10 +53,25 @@ report_cause asked w (refusal.Deck fault) text left old d read cause = absurd ca
 report_cause asked w refusal.Write text left old d read cause = absurd cause
 report_cause asked w refusal.Read text left old d read cause = absurd cause
 report_cause asked w refusal.Usage text left old d read cause = absurd cause
+report_cause asked w (refusal.Report number flaw) text left old d read cause = absurd cause
+report_cause asked w (refusal.Unfit rule name) text left old d read cause = absurd cause
 
 -- the refusal of the report is that of the whole
-pub refused_cause : (asked : Asked) (w : ℕ) (result : Result (Unit {0}) Refusal) (e : Refusal) (text left old : Option (List ℕ)) (d : Deck)
+pub refused_cause : (asked : Asked) (w : ℕ) (result : Result Answer Refusal) (e : Refusal) (text left old : Option (List ℕ)) (d : Deck)
     → IfSome text (λ t. IsRead t d) → IsReportCause asked w d e → IsErrAnd result (λ r. r ≡ e) → IfErr result (IsCause asked w text left old old)
-refused_cause asked w (Ok u) e text left old d read cause is = tt
+refused_cause asked w (Ok a) e text left old d read cause is = tt
 refused_cause asked w (Err r) e text left old d read cause is =
     subst (IsCause asked w text left old old) (sym is) (report_cause asked w e text left old d read cause)
+
+err_is : (e r : Refusal) → IsErrOf {T = Unit {0}} (Err e) r → e ≡ r
+err_is e r same = cc
+
+-- what the text of a deck is
+pub is_read : (text : Option (List ℕ)) (d : Deck) (n : ℕ) → IfSome text (λ t. IsDeckOf t d n) → IfSome text (λ t. IsRead t d)
+is_read None d n h = tt
+is_read (Some t) d n h = (n, h)
+
+-- another refusal than r is passed on as another
+pub still_other : (result : Result Answer Refusal) (e r : Refusal) → IsErrAnd result (λ x. x ≡ e) → ¬ IsErrOf result r → ¬ IsErrOf {T = Unit {0}} (Err e) r
+still_other (Ok a) e r is other same = absurd is
+still_other (Err x) e r is other same = other (ap Err (is ∙ err_is e r same))

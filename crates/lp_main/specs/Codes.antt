@@ -1,5 +1,7 @@
 -- The exit statuses.
 use Rattle.std.specs.Prelude.{ℕ}
+use Rattle.lp_main.specs.declared.status.Answer.{Answer}
+use Rattle.lp_main.specs.declared.status.Answer.TheVariants as answer
 use Rattle.lp_main.specs.declared.status.Status.{Status}
 use Rattle.lp_main.specs.declared.status.Status.TheVariants.{Done, Refused, Usage, BadInput, ReadFault, WriteFault, Overflow, Budget, Memory}
 
@@ -13,3 +15,7 @@ code_of WriteFault = 5
 code_of Overflow = 6
 code_of Budget = 7
 code_of Memory = 8
+
+abbrev pub status_of_answer : Answer → Status
+status_of_answer answer.Done = Done
+status_of_answer answer.Refused = Refused

@@ -4,9 +4,12 @@ pub mod Refusals
 pub mod Says
 pub mod FaultLines
 pub mod Overflow
+pub mod Verdicts
 pub mod Refusal
 pub mod Words
 pub mod Serves
 pub mod Solves
+pub mod Checks
 pub mod Ends
 pub mod Runs
+pub mod Inner

@@ -93,3 +93,8 @@ RefusesInput s Said line = ((s ≡ status.BadInput) × Said line) ⊎ (s ≡ sta
 abbrev pub Answers : Asked → ℕ → Reading → Status → (List ℕ → Type 0) → Type 0
 Answers asked w (has_fault fault) s Said = RefusesInput s Said (fault_line fault)
 Answers asked w (is_deck d line) s Said = EndsWithin asked.budget d → RunFits w (instance_of d) → IsOrMemory s status.Done
+
+-- a text with a fault is refused with the line of its first
+abbrev pub AnswersFault : Reading → Status → (List ℕ → Type 0) → Type 0
+AnswersFault (has_fault fault) s Said = RefusesInput s Said (fault_line fault)
+AnswersFault (is_deck d line) s Said = Unit {0}

@@ -36,6 +36,8 @@ IsReadingCause text left refusal.Usage = ⊥
 IsReadingCause text left refusal.Write = ⊥
 IsReadingCause text left (refusal.Overflow here) = ⊥
 IsReadingCause text left (refusal.Budget moves) = ⊥
+IsReadingCause text left (refusal.Report number flaw) = ⊥
+IsReadingCause text left (refusal.Unfit rule name) = ⊥
 
 -- why a solve wrote no report, and what it left in the sink
 abbrev pub IsCause : Asked → ℕ → Option (List ℕ) → Option (List ℕ) → Option (List ℕ) → Option (List ℕ) → Refusal → Type 0
@@ -46,6 +48,8 @@ IsCause asked w text left old new (refusal.Overflow here) = IfSome text (IsOverf
 IsCause asked w text left old new (refusal.Budget moves) = IfSome text (IsOverBudget asked moves) × (new ≡ old)
 IsCause asked w text left old new refusal.Memory = (new ≡ old) ⊎ IfSome text (BeginsReport asked old new)
 IsCause asked w text left old new refusal.Usage = ⊥
+IsCause asked w text left old new (refusal.Report number flaw) = ⊥
+IsCause asked w text left old new (refusal.Unfit rule name) = ⊥
 
 -- the report states the outcome of the deck's whole run, as it is asked for
 pub record IsReportOf (asked : Asked) (d : Deck) (report : Report) : Type 0 where
@@ -65,6 +69,8 @@ IsReportCause asked w d refusal.Read = ⊥
 IsReportCause asked w d (refusal.Deck fault) = ⊥
 IsReportCause asked w d refusal.Usage = ⊥
 IsReportCause asked w d refusal.Write = ⊥
+IsReportCause asked w d (refusal.Report number flaw) = ⊥
+IsReportCause asked w d (refusal.Unfit rule name) = ⊥
 
 -- why a report was not written to its end
 abbrev pub IsWriteCause : Refusal → Type 0
@@ -75,3 +81,5 @@ IsWriteCause (refusal.Deck fault) = ⊥
 IsWriteCause refusal.Usage = ⊥
 IsWriteCause (refusal.Overflow here) = ⊥
 IsWriteCause (refusal.Budget moves) = ⊥
+IsWriteCause (refusal.Report number flaw) = ⊥
+IsWriteCause (refusal.Unfit rule name) = ⊥

@@ -1,16 +1,17 @@
 //! The program `lp`: an exact linear programming system.
 //!
-//! `main` takes its words, makes the ends of the process, and calls [`top::run_alone`], which reads a
-//! deck, solves it and writes the report, all on one thread. The contract of `run_alone` is stated
-//! over any source and any sinks: where they tell their bytes, the bytes written are the report of
-//! the deck's one run by Bland's rule (Bland 1977), or one line that refuses, with its cause.
+//! `main` takes its words, makes the ends of the process, and calls [`top::run_alone`], which solves a deck, or checks a report
+//! that stands behind one, and waits for nobody. The contract of `run_alone` is the relation `Runs` of `specs/Runs.antt`, over
+//! any source and any sinks: where they tell their bytes, the bytes written are the report of the deck's one run by Bland's rule
+//! (Bland 1977), as it is asked for, or the verdict on a report; or one line refuses, with its cause.
 //!
 //! Every deck in fixed MPS is read, and each fault of a text has its line. Every deck is solved, in two phases: to an optimal
 //! point with prices that prove it, to a Farkas row, which leaves no feasible point, or to a feasible point with a ray along
-//! which the objective falls without end.
+//! which the objective falls without end. A report of either version is checked, rule by rule.
 //!
-//! The deck is read by `mps_reader`, made an instance by `instance_model`, solved by `crew`, and the report written by `cert_text`; the
-//! definitions that the contract cites are those of `mps_model`, `lp_model` and `lp_text`.
+//! What the words ask for is told by `lp_words`. The deck is read by `mps_reader`, made an instance by `instance_model`, solved by
+//! `crew`, and the report written by `cert_text`; a report is read by `report_reader` and judged by `cert_check`. The definitions
+//! that the contract cites are those of `mps_model`, `lp_model`, `lp_text`, `report_lines` and `cert_check`.
 #![tactic(auto)]
 
 use crate::refusal::{Refusal, refuse};
@@ -22,13 +23,17 @@ use std::io::ErrorKind;
 use std::process::ExitCode;
 use std::rt::Env;
 
+mod checking;
 mod fault_line;
 mod last_basis;
 mod overflow_line;
 mod refusal;
 mod solve;
 mod status;
+#[cfg(test)]
+mod tests;
 mod top;
+mod verdict_line;
 mod words;
 
 /// The words of the process without the program's name; none where one of them is no text.

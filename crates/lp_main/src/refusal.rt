@@ -7,9 +7,13 @@ ghost use Rattle.lp_main.specs.World.{stream};
 use crate::fault_line::{fault_line, numbered, whole_line};
 use crate::overflow_line::overflow_line;
 use crate::status::Status;
+use crate::verdict_line::{flaw_line, unfit_line};
+use cert_check::Rule;
+use deck_model::Name;
 use io_ends::{Sink, write_all};
 use lp_model::Place;
 use mps_reader::DeckFault;
+use report_lines::Flaw;
 use std::alloc::{AllocError, Global};
 
 /// Why the program refuses.
@@ -27,6 +31,10 @@ pub enum Refusal {
     Overflow(Place),
     /// The run needs more moves than this budget.
     Budget(u64),
+    /// The line of this number, counted from the input's first, has the first flaw of the report.
+    Report(u64, Flaw),
+    /// A sum of this rule does not fit the width of the arithmetic; with the name of the rule's column or row.
+    Unfit(Rule, Option<Name>),
     /// Memory ran out.
     Memory,
 }
@@ -43,6 +51,8 @@ impl Refusal {
             Refusal::Write => Status::WriteFault,
             Refusal::Overflow(_) => Status::Overflow,
             Refusal::Budget(_) => Status::Budget,
+            Refusal::Report(_, _) => Status::BadInput,
+            Refusal::Unfit(_, _) => Status::Overflow,
             Refusal::Memory => Status::Memory,
         }
     }
@@ -61,6 +71,8 @@ impl Refusal {
             Refusal::Write => whole_line(alloc, "lp: write failed"),
             Refusal::Overflow(place) => overflow_line(alloc, *place),
             Refusal::Budget(moves) => numbered(alloc, "lp: budget spent after ", *moves, " moves"),
+            Refusal::Report(number, flaw) => flaw_line(alloc, *number, *flaw),
+            Refusal::Unfit(rule, name) => unfit_line(alloc, *rule, name),
             Refusal::Memory => whole_line(alloc, "lp: out of memory"),
         }
     }

@@ -1,5 +1,5 @@
 // A solve from a source to a sink.
-ghost use Rattle.std.specs.Prelude.{◌≡◌, ◌≤◌, [], IfOk, IfSome, IfErr, OnOk, IsErrOf, MatchResult};
+ghost use Rattle.std.specs.Prelude.{◌≡◌, ◌≤◌, [], None, drop, option_map, IfOk, IfSome, IfErr, OnOk, IsErrOf, MatchResult};
 ghost use Rattle.io_ends.specs.Bytes.{Appends, AppendsPrefix};
 ghost use Rattle.io_ends.specs.Count.{Rose};
 ghost use Rattle.lp_text.specs.Report.{text_of_report};
@@ -10,12 +10,15 @@ ghost use Rattle.lp_run.specs.State.{State};
 ghost use Rattle.lp_model.specs.Deck.{IsDeck};
 ghost use Rattle.lp_run.specs.Instance.{IsWellFormed, instance_of};
 ghost use Rattle.lp_run.specs.Listing.{StartFits};
+ghost use Rattle.mps_cards.specs.NextLine.{lines_left};
+ghost use Rattle.mps_model.specs.DeckOf.{IsDeckOf};
 ghost use Rattle.mps_reader.specs.Answers.{IsReadAsNeeded};
 ghost use Rattle.lp_main.specs.Serves.{Reports, stated};
-ghost use Rattle.lp_main.specs.Solves.{IsCause, IsRead, IsReadingCause, IsReportCause, IsReportOf, IsWriteCause, refusal_of};
+ghost use Rattle.lp_main.specs.Solves.{IsCause, IsReadingCause, IsReportCause, IsReportOf, IsWriteCause, refusal_of};
 
 use crate::last_basis::told_basis;
 use crate::refusal::Refusal;
+use crate::status::Answer;
 use crate::words::Asked;
 use cert_text::{Report, ReportWriteFault, write_report};
 use crew::{Closed, CrewFault, solve_alone};
@@ -28,7 +31,7 @@ use mps_reader::{DeckFault, read_deck};
 use std::alloc::Global;
 use std::thread::Threads;
 
-/// Why a solve refuses where the reader does.
+/// The refusal where the reader of decks refuses.
 fn refusal_of(fault: DeckFault) -> Refusal
     ensures { result ≡ refusal_of fault }
 {
@@ -39,19 +42,23 @@ fn refusal_of(fault: DeckFault) -> Refusal
     }
 }
 
-/// Reads a deck.
-fn load<S: Source>(alloc: Global, source: &mut S) -> Result<Deck, Refusal>
-    ensures read { IfOk result (λ deck. IfSome (S.remaining source.old) (λ text. IsRead text deck)) }
-    ensures cause { IfErr result (λ refusal. IsReadingCause (S.remaining source.old) (S.remaining source.new) refusal) }
+/// Reads a deck, with a reader that has read nothing.
+pub fn load<S: Source>(
+    alloc: Global,
+    lines: &mut LineReader,
+    source: &mut S,
+) -> Result<Deck, Refusal>
+    requires { lines.old ≡ record { kept = []; count = 0; since = 0; fault = None } }
+    ensures read { IfOk result (λ deck. IfSome (S.remaining source.old) (λ text. IsDeckOf text deck lines.new.count)) }
+    ensures rest { OnOk result (lines_left lines.new.kept (S.remaining source.new) ≡ option_map (drop lines.new.count) (lines_left [] (S.remaining source.old))) }
+    ensures sound { OnOk result (lines.new.fault ≡ None) }
+    ensures cause { IfErr result (IsReadingCause (S.remaining source.old) (S.remaining source.new)) }
     ensures needed { IsReadAsNeeded [] (S.remaining source.old) (S.remaining source.new) }
     ensures rose { IsErrOf result Refusal.Read → Rose (S.fault_count source.old) (S.fault_count source.new) }
     ensures stays { ¬ IsErrOf result Refusal.Read → S.fault_count source.new ≡ S.fault_count source.old }
     ensures never_falls { S.fault_count source.old ≤ S.fault_count source.new }
 {
-    let Ok(mut lines) = LineReader::new(alloc) else {
-        return Err(Refusal::Memory);
-    };
-    match read_deck(alloc, &mut lines, source) {
+    match read_deck(alloc, lines, source) {
         Ok(deck) => Ok(deck),
         Err(fault) => Err(refusal_of(fault)),
     }
@@ -150,8 +157,8 @@ pub fn solve<R: Threads + Sync, S: Source, K: Sink, A: Arith>(
     source: &mut S,
     out: &mut K,
     arith: &mut A,
-) -> Result<(), Refusal>
-    ensures done { OnOk result (IfSome (S.remaining source.old) (Reports asked (K.contents out.old) (K.contents out.new))) }
+) -> Result<Answer, Refusal>
+    ensures done { IfOk result (λ answer. (answer ≡ Answer.Done) × IfSome (S.remaining source.old) (Reports asked (K.contents out.old) (K.contents out.new))) }
     ensures cause { IfErr result (IsCause asked (A.width arith.old) (S.remaining source.old) (S.remaining source.new) (K.contents out.old) (K.contents out.new)) }
     ensures needed { IsReadAsNeeded [] (S.remaining source.old) (S.remaining source.new) }
     ensures source_rose { IsErrOf result Refusal.Read → Rose (S.fault_count source.old) (S.fault_count source.new) }
@@ -162,7 +169,11 @@ pub fn solve<R: Threads + Sync, S: Source, K: Sink, A: Arith>(
     ensures sink_never_falls { K.fault_count out.old ≤ K.fault_count out.new }
     ensures same_width { A.width arith.new ≡ A.width arith.old }
 {
-    let deck = load(alloc, source)?;
+    let Ok(mut lines) = LineReader::new(alloc) else {
+        return Err(Refusal::Memory);
+    };
+    let deck = load(alloc, &mut lines, source)?;
     let report = report_of(rt, alloc, asked, &deck, arith)?;
-    write(alloc, &deck, &report, out)
+    write(alloc, &deck, &report, out)?;
+    Ok(Answer::Done)
 }

@@ -1,6 +1,6 @@
 // How a call of the program ends.
 ghost use Rattle.std.specs.Prelude.{◌≡◌};
-ghost use Rattle.lp_main.specs.Codes.{code_of};
+ghost use Rattle.lp_main.specs.Codes.{code_of, status_of_answer};
 
 /// How a call of the program ends.
 #[derive(Clone, Copy, Debug, PartialEq, Eq)]
@@ -31,5 +31,26 @@ impl Status {
         ensures { result ≡ code_of self }
     {
         self as u8
+    }
+}
+
+/// How a call ends that is not refused.
+#[derive(Clone, Copy, Debug)]
+pub enum Answer {
+    /// What was asked for is written whole; a report that was to be checked is accepted.
+    Done,
+    /// A check found a rule broken, and wrote which.
+    Refused,
+}
+
+impl Answer {
+    /// The status that goes with it.
+    pub fn status(self) -> Status
+        ensures { result ≡ status_of_answer self }
+    {
+        match self {
+            Answer::Done => Status::Done,
+            Answer::Refused => Status::Refused,
+        }
     }
 }

@@ -1,96 +1,98 @@
 // The top call.
-ghost use Rattle.std.specs.Prelude.{◌≡◌, ◌≤◌, [], IsErrOf, map};
+ghost use Rattle.std.specs.Prelude.{◌≡◌, ◌≤◌, IsErrOf, map};
 ghost use Rattle.std.specs.String.{string_bytes};
 ghost use Rattle.io_ends.specs.Count.{Rose};
 ghost use Rattle.lp_words.specs.Words.{wish_of};
-ghost use Rattle.mps_reader.specs.Answers.{IsReadAsNeeded};
-ghost use Rattle.lp_main.specs.Ends.{LeavesBy};
+ghost use Rattle.lp_main.specs.Ends.{LeavesBy, ReadsAsNeeded};
 ghost use Rattle.lp_main.specs.Runs.{Runs};
-ghost use Rattle.lp_main.specs.Words.{asked_of};
+ghost use Rattle.lp_main.specs.Words.{task_of};
 ghost use Rattle.lp_main.specs.World.{stream, world};
 
+use crate::checking::check;
 use crate::refusal::{Refusal, refuse};
 use crate::solve::solve;
-use crate::status::Status;
-use crate::words::served;
+use crate::status::{Answer, Status};
+use crate::words::{Task, served};
 use exact_frac::Arith;
 use io_ends::{Sink, Source};
 use std::alloc::Global;
 use std::thread::Threads;
 
-/// Serves what the words ask for: reads a deck from `deck`, and writes its report to `out`.
+/// Serves what the words ask for: reads a deck from `input`, and writes its report to `out`, or reads a report too, and writes
+/// the verdict on it.
 fn serve<R: Threads + Sync, S: Source, K: Sink, A: Arith>(
     rt: &R,
     alloc: Global,
     words: &[String],
-    deck: &mut S,
+    input: &mut S,
     out: &mut K,
     arith: &mut A,
-) -> Result<(), Refusal>
-    ensures leaves { LeavesBy (asked_of (wish_of (map string_bytes words.now))) (A.width arith.old)
-        (stream (S.remaining deck.old) (S.fault_count deck.old)) (stream (S.remaining deck.new) (S.fault_count deck.new))
+) -> Result<Answer, Refusal>
+    ensures leaves { LeavesBy (task_of (wish_of (map string_bytes words.now))) (A.width arith.old)
+        (stream (S.remaining input.old) (S.fault_count input.old)) (stream (S.remaining input.new) (S.fault_count input.new))
         (stream (K.contents out.old) (K.fault_count out.old)) (stream (K.contents out.new) (K.fault_count out.new)) result }
-    ensures needed { IsReadAsNeeded [] (S.remaining deck.old) (S.remaining deck.new) }
-    ensures source_rose { IsErrOf result Refusal.Read → Rose (S.fault_count deck.old) (S.fault_count deck.new) }
-    ensures source_stays { ¬ IsErrOf result Refusal.Read → S.fault_count deck.new ≡ S.fault_count deck.old }
-    ensures source_never_falls { S.fault_count deck.old ≤ S.fault_count deck.new }
+    ensures needed { ReadsAsNeeded (task_of (wish_of (map string_bytes words.now)))
+        (stream (S.remaining input.old) (S.fault_count input.old)) (stream (S.remaining input.new) (S.fault_count input.new)) }
+    ensures source_rose { IsErrOf result Refusal.Read → Rose (S.fault_count input.old) (S.fault_count input.new) }
+    ensures source_stays { ¬ IsErrOf result Refusal.Read → S.fault_count input.new ≡ S.fault_count input.old }
+    ensures source_never_falls { S.fault_count input.old ≤ S.fault_count input.new }
     ensures sink_rose { IsErrOf result Refusal.Write → Rose (K.fault_count out.old) (K.fault_count out.new) }
     ensures sink_stays { ¬ IsErrOf result Refusal.Write → K.fault_count out.new ≡ K.fault_count out.old }
     ensures sink_never_falls { K.fault_count out.old ≤ K.fault_count out.new }
     ensures same_width { A.width arith.new ≡ A.width arith.old }
 {
-    let asked = served(alloc, words)?;
-    solve(rt, alloc, asked, deck, out, arith)
+    match served(alloc, words) {
+        Ok(Task::Solve(asked)) => solve(rt, alloc, asked, input, out, arith),
+        Ok(Task::Check) => check(alloc, input, out, arith),
+        Err(unserved) => Err(unserved),
+    }
 }
 
-/// Does what the words say, on one thread: reads a deck from `deck`, writes its report to `out`, and
-/// says on `err` why it refuses, where it does.
+/// Does what the words say, and waits for nobody: reads a deck from `input` and writes its report to `out`, or reads a deck and a
+/// report behind it and writes the verdict; and says on `err` why it refuses, where it does.
 ///
-/// What `runs` says, where `deck` tells the text that it has left:
+/// What `runs` says, where `input` tells the text that it has left:
 ///
-/// - `ends`: the call ends in one way, which has this status. Either `out` gained the report of the one
-///   run of the deck that the text is, an optimal point with prices that prove it, a Farkas row, or a
-///   feasible point with a ray, with the run's log where it is asked for, and `err` nothing; or `err`
-///   gained the one line of a refusal (a beginning of it, where a write there failed), and the refusal has
-///   its cause: words that ask for nothing that is served; the text's first fault; a failed read, where
-///   what was taken has no whole line with a fault and none that ends the deck; a failed write; the first
-///   value of the run that does not fit the width, with its place; or a run longer than the budget, which
-///   is then below the bound of Bland's theorem. `out` gained nothing, but after a failed write or want of
-///   memory it may have a beginning of the report. Where nothing that is served is asked for, nothing is
-///   read and nothing written.
-/// - `needed`: `deck` is read only as needed, however the call ends: before the last read, of up to 4,096
-///   bytes, no line that stands whole in the bytes that were read has a fault, none ends the deck, and the
-///   bytes are no more than a deck may have.
-/// - `input_never_falls`, `output_never_falls`: the counts of faults of `deck` and `out` do not fall.
-/// - `reads`: either no read failed, so that the count of `deck` stands, and the status is not
-///   `ReadFault`. Or a read failed, the count rose, and the status is `ReadFault` or `Memory`: a read
-///   was needed after all that was taken, so none is tried behind the line that ends the deck or one that
-///   has a fault.
-/// - `writes`: either no write failed, so that the count of `out` stands, and the status is not
-///   `WriteFault`. Or a write failed behind a beginning of the report, the count rose, and the status is
-///   `WriteFault` or `Memory`.
-/// - `answered`: where a solve is asked for and neither count rose, a text with a fault has `BadInput` and
-///   the line of its first fault, and a deck whose run ends within the budget, all of whose values fit,
-///   has `Done`; or the status is `Memory`.
+/// - `ends`: the call ends in one way, which has this status. Either `err` gained nothing, and `out` gained what was asked for. Of
+///   a solve that is the report of the one run of the deck that the text is, an optimal point with prices that prove it, a
+///   Farkas row, or a feasible point with a ray, with the run's log and its last basis where they are asked for. Of a check it is
+///   one line: the report behind the deck is accepted, and proves what it states; or the first of the checker's rules that it
+///   breaks. Or `err` gained the one line of a refusal (a beginning of it, where a write there failed), and the refusal has its
+///   cause: words that ask for nothing that is served; the text's first fault, or the report's first flaw; a failed read, where
+///   what was taken has no whole line with a fault; a failed write; the first value of the run, or the first sum of the check,
+///   that does not fit the width, with its place or its rule; or a run longer than the budget, which is then below the bound of
+///   Bland's theorem. `out` gained nothing, but after a failed write or want of memory it may have a beginning of what was to be
+///   written. Where nothing that is served is asked for, nothing is read and nothing written.
+/// - `needed`: a solve reads `input` only as needed, however the call ends: before the last read, of up to 4,096 bytes, no line
+///   that stands whole in the bytes that were read has a fault, none ends the deck, and the bytes are no more than a deck may
+///   have.
+/// - `input_never_falls`, `output_never_falls`: the counts of faults of `input` and `out` do not fall.
+/// - `reads`: either no read failed, so that the count of `input` stands, and the status is not `ReadFault`. Or a read failed,
+///   the count rose, and the status is `ReadFault` or `Memory`: a read was needed after all that was taken, so a solve tries none
+///   behind the line that ends the deck, and none is tried behind a line that has a fault.
+/// - `writes`: either no write failed, so that the count of `out` stands, and the status is not `WriteFault`. Or a write failed
+///   behind a beginning of what was to be written, the count rose, and the status is `WriteFault` or `Memory`.
+/// - `answered`: where neither count rose, a text with a fault has `BadInput` and the line of its first fault, and a deck to be
+///   solved whose run ends within the budget, all of whose values fit, has `Done`; or the status is `Memory`.
 ///
 /// `same_width`: the arithmetic keeps its width.
 pub fn run_alone<R: Threads + Sync, S: Source, K: Sink, E: Sink, A: Arith>(
     rt: &R,
     alloc: Global,
     words: &[String],
-    deck: &mut S,
+    input: &mut S,
     out: &mut K,
     err: &mut E,
     arith: &mut A,
 ) -> Status
-    ensures runs { Runs (asked_of (wish_of (map string_bytes words.now))) (A.width arith.old)
-        (world (stream (S.remaining deck.old) (S.fault_count deck.old)) (stream (K.contents out.old) (K.fault_count out.old)) (stream (E.contents err.old) (E.fault_count err.old)))
-        (world (stream (S.remaining deck.new) (S.fault_count deck.new)) (stream (K.contents out.new) (K.fault_count out.new)) (stream (E.contents err.new) (E.fault_count err.new)))
+    ensures runs { Runs (task_of (wish_of (map string_bytes words.now))) (A.width arith.old)
+        (world (stream (S.remaining input.old) (S.fault_count input.old)) (stream (K.contents out.old) (K.fault_count out.old)) (stream (E.contents err.old) (E.fault_count err.old)))
+        (world (stream (S.remaining input.new) (S.fault_count input.new)) (stream (K.contents out.new) (K.fault_count out.new)) (stream (E.contents err.new) (E.fault_count err.new)))
         result }
     ensures same_width { A.width arith.new ≡ A.width arith.old }
 {
-    match serve(rt, alloc, words, deck, out, arith) {
-        Ok(()) => Status::Done,
+    match serve(rt, alloc, words, input, out, arith) {
+        Ok(answer) => answer.status(),
         Err(refusal) => refuse(&refusal, alloc, err),
     }
 }

@@ -2,7 +2,7 @@
 ghost use Rattle.std.specs.Prelude.{◌≡◌, IfErr, IfOk, Some, map};
 ghost use Rattle.std.specs.String.{string_bytes};
 ghost use Rattle.lp_words.specs.Words.{wish_of};
-ghost use Rattle.lp_main.specs.Words.{IsUnserved, asked_of};
+ghost use Rattle.lp_main.specs.Words.{IsUnserved, task_of};
 
 use crate::refusal::Refusal;
 use lp_words::{Wish, WordsFault, wish};
@@ -19,10 +19,19 @@ pub struct Asked {
     pub version: u32,
 }
 
-/// The solve that the words ask for.
-pub fn served(alloc: Global, words: &[String]) -> Result<Asked, Refusal>
-    ensures asked { IfOk result (λ asked. asked_of (wish_of (map string_bytes words.now)) ≡ Some asked) }
-    ensures unserved { IfErr result (IsUnserved (asked_of (wish_of (map string_bytes words.now)))) }
+/// What is served.
+#[derive(Clone, Copy, Debug)]
+pub enum Task {
+    /// A solve of a deck.
+    Solve(Asked),
+    /// A check of the report that stands behind a deck.
+    Check,
+}
+
+/// What the words ask for.
+pub fn served(alloc: Global, words: &[String]) -> Result<Task, Refusal>
+    ensures task { IfOk result (λ task. task_of (wish_of (map string_bytes words.now)) ≡ Some task) }
+    ensures unserved { IfErr result (IsUnserved (task_of (wish_of (map string_bytes words.now)))) }
 {
     match wish(alloc, words) {
         Ok(
@@ -33,11 +42,12 @@ pub fn served(alloc: Global, words: &[String]) -> Result<Asked, Refusal>
                 report: version,
                 ..
             },
-        ) => Ok(Asked {
+        ) => Ok(Task::Solve(Asked {
             budget,
             log,
             version,
-        }),
+        })),
+        Ok(Wish::Check { free: false }) => Ok(Task::Check),
         Ok(_) => Err(Refusal::Usage),
         Err(WordsFault::Usage) => Err(Refusal::Usage),
         Err(WordsFault::Memory) => Err(Refusal::Memory),

@@ -67,6 +67,3 @@ pub fn waits(words: &[String]) -> bool
         _ => false,
     }
 }
-
-#[cfg(test)]
-mod tests;

@@ -3,11 +3,13 @@ use Rattle.std.proofs.Common.{◌≡◌, ℕ, ◌+◌, ◌<◌, List, [], ◌∷
 use Rattle.std.proofs.lemmas.List.{get_or_default, get_or-set_other, get_or-set_same}
 use borrow.Author.Count.{below_more}
 use Rattle.lp_model.specs.declared.Place.{Place}
-use Rattle.rational.specs.Rational.{ℚ, zero_ℚ, ◌-ℚ◌, ◌*ℚ◌, ◌/ℚ◌}
+use Rattle.rational.specs.Rational.{ℚ, zero_ℚ, inverse, ◌-ℚ◌, ◌*ℚ◌, ◌/ℚ◌}
 use Rattle.rational.specs.Width.{FitsWidth}
 use Rattle.rational.specs.Sum.{at}
 use Rattle.rational.specs.Sparse.{upto}
 use Rattle.rational.specs.Worked.{less, placed, settle}
+use Rattle.rational.proofs.RationalRing.{ring_ℚ}
+use Rattle.rational.proofs.Ring.{◌≐◌, ◌⊗◌, 𝟘}
 use Rattle.rational.proofs.Settling.{less_answer, settle-answer, settle-same}
 use Rattle.rational.proofs.WidthLaws.{fits_width-decides, unfit_tested}
 use Rattle.lp_run.specs.Listing.{AllFit, first_unfit}
@@ -40,6 +42,10 @@ pub unfit_at : (w u : ℕ) (a b : ℚ) → u ≡ w → a ≡ b → ¬ FitsWidth 
 unfit_at w u a b same is unfit fits = unfit (fit_at u w b a (sym same) (sym is) fits)
 
 -- ── a quotient ──
+
+pub zero_quotient : (x pivot : ℚ) → x ≡ zero_ℚ → x ≡ x /ℚ pivot
+unfolding ◌/ℚ◌
+zero_quotient x pivot none = none ∙ ring_ℚ 1 (λ i. 𝟘 ≐ 𝟘 ⊗ i) tt (inverse pivot) ∙ ap (λ x. x *ℚ inverse pivot) (sym none)
 
 module _ (w u : ℕ) (same : u ≡ w) (here : Place) (line : List ℚ) (pivot x : ℚ) (j : ℕ) (b : j < length line) (read : x ≡ get_or line j x) where
   there : x ≡ at line j

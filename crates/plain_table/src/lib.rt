@@ -10,8 +10,12 @@
 //! where all fits that the run lists under its number, else the place of the first value that does not, with the table as
 //! it was (`JudgesStep`). `specs/Answers.antt` and `specs/Next.antt` have these.
 //!
+//! **Threads.** The rows of a swap are worked by halves of halves, in threads where they are many. The answer is that of the
+//! rows one after another: the place of the first value in their order that does not fit, and the counts of one thread.
+//!
 //! It stands on `instance_model` for instances and states, on `deck_model` for logs, on `bland_ratio` for the ratio test, on
-//! `sparse_steps` and `exact_frac` for numbers, and on `table_laws` for what an entry makes of a table.
+//! `sparse_steps` and `exact_frac` for numbers, on `rayon` for threads, and on `table_laws` for what an entry makes of a
+//! table.
 #![tactic(auto)]
 
 mod costs;

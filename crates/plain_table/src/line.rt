@@ -1,10 +1,13 @@
 //! Lines of numbers by column, worked one after another: a quotient or a difference in each.
 ghost use Rattle.std.specs.Prelude.{◌≡◌, ◌≢◌, ◌<◌, ◌≤◌, ◌^◌, ℕ, get_or, length, OnOk};
-ghost use Rattle.rational.specs.Rational.{zero_ℚ};
+ghost use Rattle.rational.specs.Rational.{zero_ℚ, ◌/ℚ◌};
+ghost use Rattle.rational.specs.Worked.{less};
 ghost use Rattle.exact_frac.specs.Count.{unfit_after};
+ghost use Rattle.exact_frac.specs.Exact.{Exact};
+ghost use Rattle.exact_frac.specs.Settles.{Settles};
 ghost use Rattle.plain_table.specs.Inner.Lines.{in_column as there, AreDivided, AreLess, AreLessPacked, AreRising, IsSupport, IsUnpacked, Judges, less_listing, quotients_listing};
 
-use exact_frac::{Arith, Frac};
+use exact_frac::{Arith, Frac, Unfit};
 use lp_model::Place;
 use sparse_steps::less_product;
 
@@ -17,6 +20,31 @@ fn in_column(here: Place, column: usize) -> Place
         column: Some(column as u32),
         ..here
     }
+}
+
+// A quotient. That of 0 is 0, and is not divided.
+fn divided<A: Arith>(x: Frac, pivot: Frac, arith: &mut A) -> Result<Frac, Unfit>
+    requires { pivot ≢ zero_ℚ }
+    ensures answer { Exact (A.width arith.old) (x /ℚ pivot) result }
+    ensures width { A.width arith.new ≡ A.width arith.old }
+    ensures unfit { A.unfit_count arith.new ≡ unfit_after (A.unfit_count arith.old) result }
+{
+    if x.is_zero() {
+        return arith.fit(x);
+    }
+    arith.div(x, pivot)
+}
+
+// A number less a product of two that are not 0. (`less_product` would ask each time whether they are.)
+fn less_worked<A: Arith>(x: Frac, a: Frac, b: Frac, arith: &mut A) -> Result<Frac, Unfit>
+    requires left { a ≢ zero_ℚ }
+    requires right { b ≢ zero_ℚ }
+    ensures settled { Settles (A.width arith.old) (less x a b) result }
+    ensures width { A.width arith.new ≡ A.width arith.old }
+    ensures unfit { A.unfit_count arith.new ≡ unfit_after (A.unfit_count arith.old) result }
+{
+    let product = arith.mul(a, b)?;
+    arith.sub(x, product)
 }
 
 /// Divides each number of a line by the pivot.
@@ -36,7 +64,7 @@ pub fn divide_line<A: Arith>(
     ensures unfit { A.unfit_count arith.new ≡ unfit_after (A.unfit_count arith.old) result }
 {
     for j in 0..line.len() {
-        match arith.div(line[j], pivot) {
+        match divided(line[j], pivot, arith) {
             Ok(quotient) => out[j] = quotient,
             Err(_) => return Err(in_column(here, j)),
         }
@@ -80,6 +108,7 @@ pub fn subtract_packed<A: Arith>(
     arith: &mut A,
     out: &mut [Frac],
 ) -> Result<(), Place>
+    requires factor { factor ≢ zero_ℚ }
     requires by { length by.now ≡ length line.now }
     requires support { IsSupport by.now columns.now }
     requires count { length columns.now ≤ length out.old }
@@ -91,7 +120,7 @@ pub fn subtract_packed<A: Arith>(
 {
     for k in 0..columns.len() {
         let j = columns[k] as usize;
-        match less_product(line[j], factor, by[j], arith) {
+        match less_worked(line[j], factor, by[j], arith) {
             Ok(rest) => out[k] = rest,
             Err(_) => return Err(in_column(here, j)),
         }

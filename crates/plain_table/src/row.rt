@@ -1,5 +1,6 @@
 //! Rows of a table.
-ghost use Rattle.std.specs.Prelude.{◌≡◌, ◌<◌, ◌≤◌, ◌^◌, ℕ, get_or, length, OnOk};
+ghost use Rattle.std.specs.Prelude.{◌≡◌, ◌≢◌, ◌<◌, ◌≤◌, ◌^◌, ℕ, get_or, length, OnOk};
+ghost use Rattle.rational.specs.Rational.{zero_ℚ};
 ghost use Rattle.rational.specs.Sum.{at};
 ghost use Rattle.lp_run.specs.Instance.{column_count, row_count};
 ghost use Rattle.plain_table.specs.Inner.Starts.{IsStartRow, start_row_listing};
@@ -73,6 +74,7 @@ impl Row {
         columns: &[u32],
         arith: &mut A,
     ) -> Result<(), Place>
+        requires factor { factor ≢ zero_ℚ }
         requires by { length by.now ≡ length line.now }
         requires support { IsSupport by.now columns.now }
         requires count { length columns.now ≤ length self.old }

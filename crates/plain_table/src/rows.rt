@@ -4,7 +4,7 @@ ghost use Rattle.std.specs.Thread.{IsSync};
 ghost use Rattle.rational.specs.Sum.{at};
 ghost use Rattle.exact_frac.specs.Count.{unfit_after};
 ghost use Rattle.plain_table.specs.Inner.Lines.{IsSupport, Judges};
-ghost use Rattle.plain_table.specs.Inner.Rows.{AreEliminated, AreTaken, AreWide, EliminatesRow, IsTaken, WorksRows, row_listing, rows_listing};
+ghost use Rattle.plain_table.specs.Inner.Rows.{AreEliminated, AreTaken, AreWide, CanWorkRows, EliminatesRow, IsTaken, WorksRows, row_listing, rows_listing};
 
 use crate::row::Row;
 use exact_frac::{Arith, Frac};
@@ -66,14 +66,7 @@ fn eliminate_in_turn<A: Arith>(
     arith: &mut A,
     out: &mut [Row],
 ) -> Result<(), Place>
-    requires count { length out.old ≡ length rows.now }
-    requires wide { AreWide (length by.now) rows.now }
-    requires spare { AreWide (length by.now) out.old }
-    requires column { q < length by.now }
-    requires few_columns { length by.now < 2 ^ 32 }
-    requires support { IsSupport by.now columns.now }
-    requires columns { length columns.now ≤ length by.now }
-    requires few_rows { length rows.now + base < 2 ^ 32 }
+    requires { CanWorkRows base q by.now columns.now rows.now out.old }
     ensures answer { Judges (A.width arith.old) (rows_listing number position base q by.now rows.now) result }
     ensures eliminated { OnOk result (AreEliminated position base q by.now columns.now rows.now out.new) }
     ensures spare { AreWide (length by.now) out.new }
@@ -113,14 +106,7 @@ pub fn eliminate_all<R: Threads + Sync, A: Arith>(
     arith: &mut A,
     out: &mut [Row],
 ) -> Result<(), Place>
-    requires count { length out.old ≡ length rows.now }
-    requires wide { AreWide (length by.now) rows.now }
-    requires spare { AreWide (length by.now) out.old }
-    requires column { q < length by.now }
-    requires few_columns { length by.now < 2 ^ 32 }
-    requires support { IsSupport by.now columns.now }
-    requires columns { length columns.now ≤ length by.now }
-    requires few_rows { length rows.now + base < 2 ^ 32 }
+    requires { CanWorkRows base q by.now columns.now rows.now out.old }
     ensures answer { Judges (A.width arith.old) (rows_listing number position base q by.now rows.now) result }
     ensures eliminated { OnOk result (AreEliminated position base q by.now columns.now rows.now out.new) }
     ensures spare { AreWide (length by.now) out.new }
@@ -180,26 +166,26 @@ fn eliminate_halves<R: Threads + Sync, A: Arith>(
     low_out: &mut [Row],
     high_out: &mut [Row],
 ) -> (Result<(), Place>, Result<(), Place>)
-    requires column { q < length by.now }
-    requires few_columns { length by.now < 2 ^ 32 }
-    requires support { IsSupport by.now columns.now }
-    requires columns { length columns.now ≤ length by.now }
-    requires low { (length low_out.old ≡ length low.now) × AreWide (length by.now) low.now × AreWide (length by.now) low_out.old × (length low.now + base < 2 ^ 32) }
-    requires high { (length high_out.old ≡ length high.now) × AreWide (length by.now) high.now × AreWide (length by.now) high_out.old × (length high.now + up < 2 ^ 32) }
-    ensures low { WorksRows (A.width arith.old) (A.width arith.new) (A.unfit_count arith.old) (A.unfit_count arith.new) number position base q by.now columns.now low.now low_out.new result.0 }
-    ensures high { WorksRows (A.width own.old) (A.width own.new) (A.unfit_count own.old) (A.unfit_count own.new) number position up q by.now columns.now high.now high_out.new result.1 }
+    requires low { CanWorkRows base q by.now columns.now low.now low_out.old }
+    requires high { CanWorkRows up q by.now columns.now high.now high_out.old }
+    ensures low { WorksRows (A.width arith.old) (A.width arith.new) (A.unfit_count arith.old) (A.unfit_count arith.new)
+        number position base q by.now columns.now low.now low_out.new result.0 }
+    ensures high { WorksRows (A.width own.old) (A.width own.new) (A.unfit_count own.old) (A.unfit_count own.new)
+        number position up q by.now columns.now high.now high_out.new result.1 }
 {
     let mut front = || -> Result<(), Place>
-        requires { IsSync R.row × (q < length by.now) × (length by.now < 2 ^ 32) × IsSupport by.now columns.now × (length columns.now ≤ length by.now) × (length low_out.now ≡ length low.now) × AreWide (length by.now) low.now × AreWide (length by.now) low_out.now × (length low.now + base < 2 ^ 32) }
-        ensures { WorksRows (A.width arith.entry.now) (A.width arith.exit.now) (A.unfit_count arith.entry.now) (A.unfit_count arith.exit.now) number position base q by.entry.now columns.entry.now low.entry.now low_out.exit.now result }
+        requires { IsSync R.row × CanWorkRows base q by.now columns.now low.now low_out.now }
+        ensures { WorksRows (A.width arith.entry.now) (A.width arith.exit.now) (A.unfit_count arith.entry.now) (A.unfit_count arith.exit.now)
+            number position base q by.entry.now columns.entry.now low.entry.now low_out.exit.now result }
     {
         eliminate_all(
             rt, depth, number, position, base, q, by, columns, low, arith, low_out,
         )
     };
     let mut back = || -> Result<(), Place>
-        requires { IsSync R.row × (q < length by.now) × (length by.now < 2 ^ 32) × IsSupport by.now columns.now × (length columns.now ≤ length by.now) × (length high_out.now ≡ length high.now) × AreWide (length by.now) high.now × AreWide (length by.now) high_out.now × (length high.now + up < 2 ^ 32) }
-        ensures { WorksRows (A.width own.entry.now) (A.width own.exit.now) (A.unfit_count own.entry.now) (A.unfit_count own.exit.now) number position up q by.entry.now columns.entry.now high.entry.now high_out.exit.now result }
+        requires { IsSync R.row × CanWorkRows up q by.now columns.now high.now high_out.now }
+        ensures { WorksRows (A.width own.entry.now) (A.width own.exit.now) (A.unfit_count own.entry.now) (A.unfit_count own.exit.now)
+            number position up q by.entry.now columns.entry.now high.entry.now high_out.exit.now result }
     {
         eliminate_all(
             rt, depth, number, position, up, q, by, columns, high, own, high_out,

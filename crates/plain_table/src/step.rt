@@ -18,7 +18,8 @@ use lp_model::{Entry, Phase, Place, Side};
 use std::thread::Threads;
 
 impl Table {
-    /// Takes in the next entry of the run: the table then stands at the state after it. It takes no memory.
+    /// Takes in the next entry of the run: the table then stands at the state after it. It takes no memory. Where many
+    /// items are worked, its rows are worked in threads, which end before it returns.
     ///
     /// # Errors
     ///

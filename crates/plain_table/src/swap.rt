@@ -65,7 +65,8 @@ pub fn work_entering<R: Threads + Sync, A: Arith>(
     requires spare_values { length out_values.old ≡ length rows.now }
     requires spare_costs { length out_costs.old ≡ length costs.now }
     ensures listed { JudgesStep (A.width arith.old) inst.now (table_of state.now rows.now values.now costs.now number) result }
-    ensures stands { IfOk result (λ count. SwapsTo inst.now (table_of state.now rows.now values.now costs.now number) q position by.new (take count support.new) out_rows.new out_values.new out_costs.new) }
+    ensures stands { IfOk result (λ count. SwapsTo inst.now (table_of state.now rows.now values.now costs.now number) q position by.new (take count support.new)
+        out_rows.new out_values.new out_costs.new) }
     ensures support { IfOk result (λ count. (count ≤ length support.new) × IsSupport by.new (take count support.new)) }
     ensures spare_wide { AreWide (length costs.now) out_rows.new }
     ensures width { A.width arith.new ≡ A.width arith.old }

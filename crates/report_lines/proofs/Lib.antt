@@ -1,4 +1,4 @@
 mod Splitting
 mod Values
-mod Plain
+pub mod Plain
 mod SwapLines

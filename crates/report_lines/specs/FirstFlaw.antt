@@ -1,6 +1,6 @@
 -- The first flaw of a text that is read as a report, with the number of its line: each line is judged by what is expected in its place.
-use Rattle.std.specs.Prelude.{◌≡◌, ◌≢◌, ◌⊎◌, ℕ, zero, suc, ◌+◌, ◌<◌, ◌≤◌, List, [], ◌∷◌, ◌++◌, codes, length, map}
-use Rattle.std.specs.Fmt.{decimal}
+use Rattle.std.specs.Prelude.{◌≡◌, ◌≢◌, ◌⊎◌, ℕ, zero, suc, ◌+◌, ◌<◌, ◌≤◌, List, [], ◌∷◌, ◌++◌, codes, length, map, sum}
+use Rattle.std.specs.List.{All}
 use Rattle.rational.specs.Rational.{ℚ}
 use Rattle.rational.specs.Width.{FitsWidth}
 use Rattle.lp_model.specs.Deck.{Deck}
@@ -8,10 +8,14 @@ use Rattle.lp_model.specs.declared.Entry.{Entry}
 use Rattle.lp_text.specs.Fraction.{fraction_text}
 use Rattle.lp_text.specs.Limits.{report_limit, report_line_limit}
 use Rattle.lp_text.specs.Lines.{Line, size_of}
-use Rattle.lp_text.specs.Report.{column_names, entry_line, row_names, value_line}
+use Rattle.lp_text.specs.Report.{column_names, entry_line, number_line, row_names, value_line}
 use Rattle.report_lines.specs.Judged.{IsCountFlaw, IsCountLine, IsEntryFlaw, IsFixedFlaw, IsIndexFlaw, IsObjectiveFlaw, IsTitleFlaw, IsValueFlaw, IsWithin, part}
 use Rattle.report_lines.specs.declared.flaw.Flaw.{Flaw}
 use Rattle.report_lines.specs.declared.flaw.Flaw.TheVariants as flaw
+
+-- how many columns the method has: the structurals, and a logical and an artificial for each row
+abbrev pub column_total : Deck → ℕ
+column_total d = length d.columns + length d.rows + length d.rows
 
 -- what is expected in a line
 pub data Expected : Type 0 where
@@ -35,7 +39,7 @@ pub data Expected : Type 0 where
 abbrev pub values : List ℕ → List (List ℕ) → List Expected
 values word names = map (λ name. value word name) names
 
--- one for each of so many
+-- the first of so many lines, each of which expects the next
 abbrev pub repeated : (ℕ → Expected) → ℕ → List Expected
 repeated expected zero = []
 repeated expected (suc more) = expected more ∷ []
@@ -55,14 +59,14 @@ Meets d kind line next = Follows d line next
 Meets d objective line next = (v : ℚ) × FitsWidth 127 v × (line ≡ codes "OBJECTIVE " ++ fraction_text v) × (next ≡ [])
 Meets d (value word name) line next = (v : ℚ) × FitsWidth 127 v × (line ≡ value_line word v name) × (next ≡ [])
 Meets d basis line next = IsCountLine (codes "BASIS") line (length d.rows) × (next ≡ repeated basic (length d.rows))
-Meets d (basic more) line next = (q : ℕ) × (q < length d.columns) × (line ≡ codes "BASIC " ++ decimal q) × (next ≡ repeated basic more)
-Meets d upper line next = (count : ℕ) × (count ≤ length d.columns) × IsCountLine (codes "UPPER") line count × (next ≡ repeated (at 0) count)
+Meets d (basic more) line next = (q : ℕ) × (q < column_total d) × (line ≡ number_line (codes "BASIC") q) × (next ≡ repeated basic more)
+Meets d upper line next = (count : ℕ) × (count ≤ column_total d) × IsCountLine (codes "UPPER") line count × (next ≡ repeated (at 0) count)
 Meets d (at least more) line next =
-    (q : ℕ) × (least ≤ q) × (q < length d.columns) × (line ≡ codes "AT " ++ decimal q) × (next ≡ repeated (at (q + 1)) more)
+    (q : ℕ) × (least ≤ q) × (q < column_total d) × (line ≡ number_line (codes "AT") q) × (next ≡ repeated (at (q + 1)) more)
 Meets d log_or_end line next =
     ((line ≡ codes "END") × (next ≡ [])) ⊎ ((count : ℕ) × IsCountLine (codes "LOG") line count × (next ≡ repeated entry count ++ end ∷ []))
 Meets d (entry more) line next =
-    (e : Entry) × IsWithin (length d.columns) (length d.rows) e × (line ≡ entry_line e) × (next ≡ repeated entry more)
+    (e : Entry) × IsWithin (column_total d) (length d.rows) e × (line ≡ entry_line e) × (next ≡ repeated entry more)
 Meets d end line next = (line ≡ codes "END") × (next ≡ [])
 
 -- the count stands, and is none that the deck has
@@ -77,31 +81,53 @@ HasFlaw d kind line found = (found ≡ flaw.Word) × ((next : List Expected) →
 HasFlaw d objective line found = IsObjectiveFlaw line found
 HasFlaw d (value word name) line found = IsValueFlaw line word name found
 HasFlaw d basis line found = IsCountFlaw (codes "BASIS") line found ⊎ IsOtherCount (codes "BASIS") line (λ count. count ≡ length d.rows) found
-HasFlaw d (basic more) line found = IsIndexFlaw (codes "BASIC") 0 (length d.columns) line found
-HasFlaw d upper line found = IsCountFlaw (codes "UPPER") line found ⊎ IsOtherCount (codes "UPPER") line (λ count. count ≤ length d.columns) found
-HasFlaw d (at least more) line found = IsIndexFlaw (codes "AT") least (length d.columns) line found
+HasFlaw d (basic more) line found = IsIndexFlaw (codes "BASIC") 0 (column_total d) line found
+HasFlaw d upper line found = IsCountFlaw (codes "UPPER") line found ⊎ IsOtherCount (codes "UPPER") line (λ count. count ≤ column_total d) found
+HasFlaw d (at least more) line found = IsIndexFlaw (codes "AT") least (column_total d) line found
 HasFlaw d log_or_end line found =
     ((found ≡ flaw.Word) × (line ≢ codes "END") × (part line ≢ codes "LOG")) ⊎ ((part line ≡ codes "LOG") × IsCountFlaw (codes "LOG") line found)
-HasFlaw d (entry more) line found = IsEntryFlaw (length d.columns) (length d.rows) line found
+HasFlaw d (entry more) line found = IsEntryFlaw (column_total d) (length d.rows) line found
 HasFlaw d end line found = IsFixedFlaw line (codes "END") found
 
--- the line of a number has the first flaw of these lines, before which so many lines of so many bytes stand
-abbrev pub HasFirstFlaw : Deck → List Expected → ℕ → ℕ → List Line → ℕ → Flaw → Type 0
-HasFirstFlaw d [] n used [] number found = ⊥
-HasFirstFlaw d (expected ∷ others) n used [] number found = (number ≡ n + 1) × (found ≡ flaw.Missing)
-HasFirstFlaw d [] n used (line ∷ lines) number found =
-    (number ≡ n + 1)
-    × (((report_limit < used + size_of line) × (found ≡ flaw.Bytes))
-    ⊎ ((used + size_of line ≤ report_limit) × (report_line_limit < length line.bytes) × (found ≡ flaw.Long))
-    ⊎ ((used + size_of line ≤ report_limit) × (length line.bytes ≤ report_line_limit) × (found ≡ flaw.Rest)))
-HasFirstFlaw d (expected ∷ others) n used (line ∷ lines) number found =
-    ((number ≡ n + 1) × (report_limit < used + size_of line) × (found ≡ flaw.Bytes))
-    ⊎ ((used + size_of line ≤ report_limit)
-    × (((number ≡ n + 1) × (report_line_limit < length line.bytes) × (found ≡ flaw.Long))
-    ⊎ ((length line.bytes ≤ report_line_limit)
-    × (((number ≡ n + 1) × HasFlaw d expected line.bytes found)
-    ⊎ ((next : List Expected) × Meets d expected line.bytes next × HasFirstFlaw d (next ++ others) (n + 1) (used + size_of line) lines number found)))))
+-- what stands wrong in a line where these are expected; behind the last line there should be none
+abbrev pub HasLineFlaw : Deck → List Expected → List ℕ → Flaw → Type 0
+HasLineFlaw d [] line found = found ≡ flaw.Rest
+HasLineFlaw d (expected ∷ others) line found = HasFlaw d expected line found
 
--- the first flaw of a text that should be a report of the deck
-abbrev pub HasFirstFlawAt : Deck → List Line → ℕ → Flaw → Type 0
-HasFirstFlawAt d lines number found = HasFirstFlaw d (version ∷ []) 0 0 lines number found
+-- the lines are as expected, one after another, and then these are expected
+abbrev pub Reaches : Deck → List Expected → List (List ℕ) → List Expected → Type 0
+Reaches d expected [] left = expected ≡ left
+Reaches d [] (line ∷ lines) left = ⊥
+Reaches d (expected ∷ others) (line ∷ lines) left = (next : List Expected) × Meets d expected line next × Reaches d (next ++ others) lines left
+
+-- the flaw of the next line, where these are expected and so many bytes stand before it
+abbrev pub HasNextFlaw : Deck → List Expected → ℕ → List Line → Flaw → Type 0
+HasNextFlaw d [] used [] found = ⊥
+HasNextFlaw d (expected ∷ others) used [] found = found ≡ flaw.Missing
+HasNextFlaw d expected used (line ∷ lines) found =
+    ((report_limit < used + size_of line) × (found ≡ flaw.Bytes))
+    ⊎ ((used + size_of line ≤ report_limit) × (report_line_limit < length line.bytes) × (found ≡ flaw.Long))
+    ⊎ ((used + size_of line ≤ report_limit) × (length line.bytes ≤ report_line_limit) × HasLineFlaw d expected line.bytes found)
+
+-- how many bytes the lines have, and the lines without their line feeds
+abbrev pub sizes : List Line → ℕ
+sizes lines = sum (map size_of lines)
+
+abbrev pub bytes_of : List Line → List (List ℕ)
+bytes_of lines = map (λ line. line.bytes) lines
+
+-- the lines are no more, and none is longer, than a report's may be
+pub record IsWithinLimits (lines : List Line) : Type 0 where
+  pub few : sizes lines ≤ report_limit
+  pub short : All (λ line. length line.bytes ≤ report_line_limit) lines
+
+-- the line of this number, counted from 1, has the first flaw of the lines of a text that should be a report of the deck
+pub record HasFirstFlaw (d : Deck) (lines : List Line) (number : ℕ) (found : Flaw) : Type 0 where
+  pub before : List Line
+  pub rest : List Line
+  pub split : lines ≡ before ++ rest
+  pub number_is : number ≡ length before + 1
+  pub within : IsWithinLimits before
+  pub expected : List Expected
+  pub met : Reaches d (version ∷ []) (bytes_of before) expected
+  pub flaw : HasNextFlaw d expected (sizes before) rest found

@@ -10,8 +10,7 @@
 //! word comes before a wrong number, and a wrong number before a wrong name. Each call answers `Ok` only at the line that
 //! the report has, as `lp_text` defines it, and else this flaw. No call takes memory.
 //!
-//! `specs/Report.antt` has the whole text, in both versions: the second tells the last basis too. `specs/FirstFlaw.antt`
-//! says which line of a text has its first flaw. No call yet reads a whole text.
+//! `specs/FirstFlaw.antt` says which line of a text that should be a report has its first flaw.
 //!
 //! The crate stands on `frac_text` for the numbers, on `exact_frac`, on `lp_text`, `lp_model` and `rational` for the
 //! definitions, and on `thiserror`.

@@ -1,6 +1,7 @@
 //! The lines that are expected in a report.
 ghost use Rattle.std.specs.Prelude.{◌≡◌, ◌<◌, ◌≤◌, ◌∷◌, ◌++◌, codes, MatchResult};
 ghost use Rattle.std.specs.Fmt.{decimal};
+ghost use Rattle.rational.specs.Width.{FitsWidth};
 ghost use Rattle.lp_text.specs.Fraction.{fraction_text};
 ghost use Rattle.lp_text.specs.Report.{value_line};
 ghost use Rattle.report_lines.specs.Judged.{IsCountFlaw, IsCountLine, IsFixedFlaw, IsIndexFlaw, IsObjectiveFlaw, IsTitleFlaw, IsValueFlaw};
@@ -48,7 +49,7 @@ pub fn title(line: &[u8], name: &[u8]) -> Result<(), Flaw>
 ///
 /// `Word` where the word is another, `Number` where the number is missing or spelled in another way.
 pub fn objective(line: &[u8]) -> Result<Frac, Flaw>
-    ensures { MatchResult result (λ v. line.now ≡ codes "OBJECTIVE " ++ fraction_text v) (IsObjectiveFlaw line.now) }
+    ensures { MatchResult result (λ v. (line.now ≡ codes "OBJECTIVE " ++ fraction_text v) × FitsWidth 127 v) (IsObjectiveFlaw line.now) }
 {
     let (word, rest) = split(line);
     fixed(word, b"OBJECTIVE")?;
@@ -68,7 +69,7 @@ pub fn objective(line: &[u8]) -> Result<Frac, Flaw>
 /// `Word` where the word is another, `Number` where the number is missing or spelled in another way, `Name` where the name
 /// is missing or another.
 pub fn value(line: &[u8], word: &[u8], name: &[u8]) -> Result<Frac, Flaw>
-    ensures { MatchResult result (λ v. line.now ≡ value_line word.now v name.now) (IsValueFlaw line.now word.now name.now) }
+    ensures { MatchResult result (λ v. (line.now ≡ value_line word.now v name.now) × FitsWidth 127 v) (IsValueFlaw line.now word.now name.now) }
 {
     let (given_word, rest) = split(line);
     fixed(given_word, word)?;

@@ -1,9 +1,10 @@
 -- Why there was no next line of a report.
-use Rattle.std.specs.Prelude.{◌≡◌, ℕ, ◌+◌, ◌<◌, List, Option, IfSome, true}
+use Rattle.std.specs.Prelude.{◌≡◌, ℕ, ◌+◌, ◌<◌, List, Option, Some, None, IfSome, true}
 use Rattle.io_ends.specs.Count.{one_more}
 use Rattle.lp_text.specs.Limits.{report_limit, report_line_limit}
 use Rattle.mps_cards.specs.NextLine.{AnswersLine, FailsToRead, IsAtEnd, first_size, lines_left}
 use Rattle.mps_cards.specs.ReaderState.{ReaderState}
+use Rattle.mps_cards.specs.declared.faults.ReadFault.TheVariants as reader
 use Rattle.mps_cards.specs.declared.lines.Line.{Line}
 use Rattle.report_lines.specs.declared.flaw.Flaw.{Flaw}
 use Rattle.report_lines.specs.declared.flaw.Flaw.TheVariants.{Bytes, Long, Missing}
@@ -22,3 +23,12 @@ abbrev pub IsLineCause : ReaderState → ReaderState → Option (List ℕ) → O
 IsLineCause before after left left' faults faults' Memory = Unit {0}
 IsLineCause before after left left' faults faults' Read = FailsToRead before.kept before.since report_limit left left' faults faults'
 IsLineCause before after left left' faults faults' (At number found) = (number ≡ one_more before.count) × IsFlawOfNext before after left left' found
+
+-- where the reader stands after a refusal: past the limit of bytes, and where a read failed, it gives that fault again; else it stands behind
+-- the line that has the flaw, and at the end where a line is missing; nothing is said after want of memory
+abbrev pub StandsAfter : ReaderState → ReportFault → Type 0
+StandsAfter after Memory = Unit {0}
+StandsAfter after Read = after.fault ≡ Some reader.Read
+StandsAfter after (At number Bytes) = after.fault ≡ Some (reader.TooMany number)
+StandsAfter after (At number Missing) = (after.fault ≡ None) × (number ≡ one_more after.count)
+StandsAfter after (At number other) = (after.fault ≡ None) × (number ≡ after.count)

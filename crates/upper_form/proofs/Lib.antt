@@ -1,2 +1,4 @@
 pub mod Walk
 pub mod Steps
+pub mod Clearing
+pub mod Exchanging

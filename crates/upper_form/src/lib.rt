@@ -7,20 +7,30 @@
 //! **Contract.** `solve` gives the x with U·x = v, `solve_back` the z with z·U = c. Each answers what the
 //! calculation settles to at the arithmetic's width, `Unfit` exactly where one of its worked values does not fit; it
 //! keeps the width, the count of unfit results rises by one exactly at `Unfit`, and the count of work rises at most by
-//! one and the number of its stored entries for each position. After `Unfit` the buffers hold anything.
+//! one and the number of its stored entries for each position. After `Unfit` the buffers hold anything. `solve` uses
+//! its vector up, and `solve_keeping` gives it back.
+//!
+//! `clear_row` takes the entries of a position's row out of all columns but the position's own, and `replace_col` puts
+//! a new column in a position whose row is clear, and the position behind all others (`Edits` of `factor_model`). So a
+//! form is changed as the update of J. J. H. Forrest and J. A. Tomlin ("Updated triangular factors of the basis to
+//! maintain sparsity in the product form simplex method", 1972) asks.
 //!
 //! No call takes memory. It stands on `factor_model` for its definitions, on `sparse_steps` for its loops and on
 //! `order_chain` for the order.
 
 #![tactic(auto)]
 
-ghost use Rattle.std.specs.Prelude.{◌≡◌, ◌≢◌, ◌+◌, ◌≤◌, ◌<◌, length, replicate, reverse, ◌∷◌, Some, IfSome, OnOk, slice_set};
+ghost use Rattle.std.specs.Prelude.{if◌then◌else◌, ◌≡◌, ◌≢◌, ◌+◌, ◌^◌, ◌≤◌, ◌<◌, length, replicate, reverse, ◌∷◌, Some, IfSome, OnOk, slice_set};
 ghost use Rattle.chain_links.specs.Lists.{rest};
 ghost use Rattle.rational.specs.Rational.{zero_ℚ};
 ghost use Rattle.exact_frac.specs.Count.{unfit_after};
 ghost use Rattle.exact_frac.specs.Settles.{Leaves, Settles};
 ghost use Rattle.factor_model.specs.Upper as upper;
-ghost use Rattle.factor_model.specs.Upper.{IsUpper, Solves, SolvesBack, by_position, place_one, solve_one, solve_rows, solve_work};
+ghost use Rattle.factor_model.specs.Edits as edits;
+ghost use Rattle.factor_model.specs.Edits.{StandsAlone, cleared_columns};
+ghost use Rattle.factor_model.specs.Vectors.{entry};
+ghost use Rattle.sparse_cols.specs.Sparse.{IsRising, without_row};
+ghost use Rattle.factor_model.specs.Upper.{IsUpper, Solves, SolvesBack, by_position, cell, place_one, solve_one, solve_rows, solve_work};
 
 use exact_frac::{Arith, Frac, Unfit};
 use order_chain::OrderChain;
@@ -80,6 +90,18 @@ impl Upper {
         }
     }
 
+    /// The entry in a row of a position's column; 0 where nothing is stored.
+    #[tactic(auto, using(exact_frac::specs::Constants::constants))]
+    pub fn entry(&self, row: usize, p: usize) -> Frac
+        requires { p < length self.now.rows }
+        ensures { result ≡ cell self.now row p }
+    {
+        match self.columns[p].get(row) {
+            Some(entry) => entry,
+            None => Frac::ZERO,
+        }
+    }
+
     /// The order of the positions.
     pub fn order(&self) -> &OrderChain
         ensures { result.now ≡ self.now.order }
@@ -92,8 +114,31 @@ impl Upper {
         requires { p < length self.now.rows }
         ensures value { result ≡ upper.row_of self.now p }
         ensures within { result < length self.now.rows }
+        ensures small { result < 2 ^ 32 }
     {
         self.rows[p] as usize
+    }
+
+    /// Takes the entries of the row of `p` out of all columns but that of `p`.
+    pub fn clear_row(&mut self, p: usize)
+        requires { p < length self.old.rows }
+        ensures { self.new ≡ edits.clear_row self.old p }
+    {
+        let row = self.row_of(p);
+        clear_others(&mut self.columns, p, row);
+    }
+
+    /// Puts a column in position `p` and the position behind all others. The row of `p` has no entry in another
+    /// column, and the new column, whose rows are rows of the form, has one there that is not 0.
+    pub fn replace_col(&mut self, p: usize, column: SparseCol<Frac>)
+        requires position { p < length self.old.rows }
+        requires alone { StandsAlone self.old p }
+        requires rows { IsRising (length self.old.rows) 0 column.pairs }
+        requires nonzero { entry column.pairs (upper.row_of self.old p) ≢ zero_ℚ }
+        ensures { self.new ≡ edits.replace_column self.old p column }
+    {
+        self.columns[p] = column;
+        self.order.move_to_end(p);
     }
 
     /// Solves U·x = v in place, by rows: position p's item of x is left in p's row. After `Unfit` the vector holds
@@ -198,6 +243,48 @@ impl Upper {
         }
     }
 
+    /// Solves U·x = v as `solve` does, and keeps the vector `v`. After `Unfit` both hold anything.
+    pub fn solve_keeping<A: Arith>(
+        &self,
+        v: &mut [Frac],
+        out: &mut [Frac],
+        arith: &mut A,
+    ) -> Result<(), Unfit>
+        requires vector { length v.old ≡ length self.now.rows }
+        requires length { length out.old ≡ length self.now.rows }
+        ensures settled { Leaves (A.width arith.old) (upper.solve self.now v.old) result out.new }
+        ensures kept { OnOk result (v.new ≡ v.old) }
+        ensures width { A.width arith.new ≡ A.width arith.old }
+        ensures unfit { A.unfit_count arith.new ≡ unfit_after (A.unfit_count arith.old) result }
+        ensures work { A.work_count arith.new ≤ A.work_count arith.old + solve_work self.now (reverse self.now.order) }
+    {
+        let _ = &self.columns;
+        self.copy_by_position(v, out);
+        match self.solve_in_rows(v, arith) {
+            Ok(()) => {
+                self.exchange(v, out);
+                Ok(())
+            }
+            Err(unfit) => Err(unfit),
+        }
+    }
+
+    // Exchanges the item of each position's row with that of the position.
+    fn exchange(&self, rows: &mut [Frac], positions: &mut [Frac])
+        requires rows { length rows.old ≡ length self.now.rows }
+        requires length { length positions.old ≡ length self.now.rows }
+        ensures positions { positions.new ≡ by_position self.now rows.old }
+        ensures rows { by_position self.now rows.new ≡ positions.old }
+    {
+        let _ = &self.columns;
+        for p in 0..positions.len() {
+            let row = self.row_of(p);
+            let item = rows[row];
+            rows[row] = positions[p];
+            positions[p] = item;
+        }
+    }
+
     // Copies the item of each position's row to the position.
     fn copy_by_position(&self, rows: &[Frac], out: &mut [Frac])
         requires rows { length rows.now ≡ length self.now.rows }
@@ -278,9 +365,27 @@ impl Upper {
     }
 }
 
-// Makes all items 0.
+// Takes a row out of each column but that of position `p`.
+fn clear_others(columns: &mut Vec<SparseCol<Frac>>, p: usize, row: usize)
+    ensures { columns.new.items ≡ cleared_columns columns.old.items p row }
+{
+    for q in 0..columns.len() {
+        clear_unless(q == p, &mut columns[q], row);
+    }
+}
+
+// Takes a row out of a column that does not keep it.
+fn clear_unless(keeps: bool, column: &mut SparseCol<Frac>, row: usize)
+    ensures { column.new ≡ (if keeps then column.old else without_row column.old row) }
+{
+    if !keeps {
+        column.remove(row);
+    }
+}
+
+/// Makes all items 0.
 #[tactic(auto, using(exact_frac::specs::Constants::constants))]
-fn clear(out: &mut [Frac])
+pub fn clear(out: &mut [Frac])
     ensures { out.new ≡ replicate (length out.old) zero_ℚ }
 {
     for x in out.iter_mut() {

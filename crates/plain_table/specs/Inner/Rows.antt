@@ -1,5 +1,5 @@
 -- What is listed where the rows of a table are worked, and what becomes of them.
-use Rattle.std.specs.Prelude.{◌≡◌, ◌≢◌, ℕ, ◌+◌, ◌<◌, List, [], length, get_or, Some, None, Bool, true, false, ◌||◌, ◌==◌, if◌then◌else◌, Result, OnOk}
+use Rattle.std.specs.Prelude.{◌≡◌, ◌≢◌, ℕ, ◌+◌, ◌^◌, ◌<◌, ◌≤◌, List, [], length, get_or, Some, None, Bool, true, false, ◌||◌, ◌==◌, if◌then◌else◌, Result, OnOk}
 use Rattle.std.specs.List.{flat_map}
 use Rattle.lp_model.specs.declared.Kind.TheVariants as kind
 use Rattle.lp_model.specs.declared.Place.{Place}
@@ -8,7 +8,7 @@ use Rattle.rational.specs.Sparse.{upto}
 use Rattle.rational.specs.Sum.{at}
 use Rattle.lp_run.specs.Listing.{Listed, place}
 use Rattle.exact_frac.specs.Count.{unfit_after}
-use Rattle.plain_table.specs.Inner.Lines.{IsUnpacked, Judges, less_listing}
+use Rattle.plain_table.specs.Inner.Lines.{IsSupport, IsUnpacked, Judges, less_listing}
 
 -- what a row lists where column q is taken out of it by the pivot row, which is not its own: nothing where it has no entry there
 abbrev pub row_listing : ℕ → Bool → ℕ → ℕ → List ℚ → List ℚ → List Listed
@@ -42,6 +42,17 @@ AreEliminated p base q by columns rows out = (i : ℕ) → i < length rows → E
 -- all rows have so many columns
 abbrev pub AreWide : ℕ → List (List ℚ) → Type 0
 AreWide width rows = (k : ℕ) → k < length rows → length (get_or rows k []) ≡ width
+
+-- rows can be worked into spare ones by a line, whose numbers that are not 0 stand in these columns; the first of the rows stands in position `base`
+pub record CanWorkRows (base q : ℕ) (by : List ℚ) (columns : List ℕ) (rows out : List (List ℚ)) : Type 0 where
+  pub count : length out ≡ length rows
+  pub wide : AreWide (length by) rows
+  pub spare : AreWide (length by) out
+  pub column : q < length by
+  pub few_columns : length by < 2 ^ 32
+  pub support : IsSupport by columns
+  pub within : length columns ≤ length by
+  pub few_rows : length rows + base < 2 ^ 32
 
 -- rows are worked one after another, with the counts of an arithmetic before and after
 pub record WorksRows (w w' unfit unfit' k p base q : ℕ) (by : List ℚ) (columns : List ℕ) (rows out : List (List ℚ)) (result : Result (Unit {0}) Place) : Type 0 where

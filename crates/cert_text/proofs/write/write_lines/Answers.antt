@@ -1,4 +1,4 @@
-use Rattle.std.proofs.Common.{[], ◌∷◌, ◌++◌, drop}
+use Rattle.std.proofs.Common.{[], ◌∷◌, ◌++◌}
 use Rattle.std.specs.Prelude.{codes}
 use Rattle.deck_model.specs.Outcome.{outcome_of}
 use Rattle.lp_text.specs.Report.{basis_lines, log_lines, outcome_lines}

@@ -1,6 +1,12 @@
-use Rattle.std.proofs.Common.{[]}
-use Rattle.mps_reader.proofs.NeededLemmas.{unread}
+use Rattle.std.specs.Prelude.{map}
+use Rattle.std.specs.String.{string_bytes}
+use Rattle.lp_words.specs.Words.{wish_of}
+use Rattle.lp_main.specs.Words.{task_of}
+use Rattle.lp_main.specs.World.{stream}
+use Rattle.lp_main.proofs.Ending.{nothing_read}
 use Rattle.lp_main.proofs.top.serve.Goals as goal
 
-pub returns-in_err-asked-clause-needed : goal.returns-in_err-asked-clause-needed
-returns-in_err-asked-clause-needed g c = unread [] (g.S.Source.remaining c.args.deck.now)
+pub returns-in-Err-clause-needed : goal.returns-in-Err-clause-needed
+returns-in-Err-clause-needed g c =
+    nothing_read (task_of (wish_of (map string_bytes c.args.words.now)))
+    (stream (g.S.Source.remaining c.args.input.now) (g.S.Source.fault_count c.args.input.now))

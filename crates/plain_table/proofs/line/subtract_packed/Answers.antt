@@ -37,7 +37,7 @@ loop-k-preserved g c =
     let within : j < length line = omega (arith, within_by, c.requires.by) in
     let within_out : k < length c.loop-k.out = omega (arith, c.loop-k.invariant.count, c.requires.count) in
     record {
-      width = c.less_product.ensures.width ∙ c.loop-k.invariant.width;
+      width = c.less_worked.ensures.width ∙ c.loop-k.invariant.width;
       unfit = c.in-Ok.ensures.unfit ∙ c.loop-k.invariant.unfit;
       count = length-set c.loop-k.out k c.in-Ok.rest ∙ c.loop-k.invariant.count;
       rest = set_next (λ i. at line (get_or columns i 0) -ℚ factor *ℚ at by (get_or columns i 0)) c.loop-k.out k c.in-Ok.rest within_out c.loop-k.invariant.rest

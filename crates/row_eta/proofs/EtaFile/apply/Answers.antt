@@ -9,7 +9,9 @@ pub returns-in_err-operate-clause-settled : goal.returns-in_err-operate-clause-s
 returns-in_err-operate-clause-settled g c =
     let ops = c.deref-op-items.result.now in
     let lt : c.loop-op.op-index < length ops = omega arith in
-    refused _ _ _ (λ _. c.operate.new.v) (step_stops _ _ c.loop-op.invariant.width _ _ _ (apply_parts ops c.loop-op.op-index c.op-item.result lt c.op-item.is c.loop-op.v) _ c.loop-op.invariant.left c.in_err-operate.ensures.settled) c.from_residual.ensures.1
+    refused _ _ _ (λ _. c.operate.new.v) (step_stops _ _ c.loop-op.invariant.width _ _ _
+    (apply_parts ops c.loop-op.op-index c.op-item.result lt c.op-item.is c.loop-op.v) _ c.loop-op.invariant.left c.in_err-operate.ensures.settled)
+    c.from_residual.ensures.1
 
 pub loop-op-preserved : goal.loop-op-preserved
 loop-op-preserved g c =
@@ -18,7 +20,8 @@ loop-op-preserved g c =
     record {
       width = c.operate.ensures.width ∙ c.loop-op.invariant.width;
       length = c.operate.auto.v ∙ c.loop-op.invariant.length;
-      left = step_settles _ _ c.loop-op.invariant.width _ _ _ (apply_parts ops c.loop-op.op-index c.op-item.result lt c.op-item.is c.loop-op.v) _ c.loop-op.invariant.left _ c.in_ok-operate.ensures.settled;
+      left = step_settles _ _ c.loop-op.invariant.width _ _ _ (apply_parts ops c.loop-op.op-index c.op-item.result lt c.op-item.is c.loop-op.v) _
+          c.loop-op.invariant.left _ c.in_ok-operate.ensures.settled;
       unfit = c.in_ok-operate.ensures.unfit ∙ c.loop-op.invariant.unfit;
       work = omega (arith, stored_parts ops c.loop-op.op-index c.op-item.result lt c.op-item.is);
     }

@@ -18,7 +18,9 @@ returns-in_err-operate_transposed-clause-settled g c =
     let found = op_back ops k op lt (subst (λ n. op ≡ get_or ops (n - 1 - k) op) count (subst (λ (xs : List Op). op ≡ get_or xs (c.len-count.result - 1 - k) op) same c.index.ensures)) in
     let back = map transposed (reverse ops) in
     let within : k < length back = omega (arith, length_back ops) in
-    refused _ _ _ (λ _. c.operate_transposed.new.v) (step_stops _ _ c.loop-k.invariant.width _ _ _ (apply_parts back k (transposed op) within found c.loop-k.v) _ c.loop-k.invariant.left c.in_err-operate_transposed.ensures.settled) c.from_residual.ensures.1
+    refused _ _ _ (λ _. c.operate_transposed.new.v) (step_stops _ _ c.loop-k.invariant.width _ _ _
+    (apply_parts back k (transposed op) within found c.loop-k.v) _ c.loop-k.invariant.left c.in_err-operate_transposed.ensures.settled)
+    c.from_residual.ensures.1
 
 pub returns-in_err-operate_transposed-clause-work : goal.returns-in_err-operate_transposed-clause-work
 returns-in_err-operate_transposed-clause-work g c =

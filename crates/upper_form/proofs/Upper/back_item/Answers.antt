@@ -9,7 +9,8 @@ returns-in-Ok-clause-settled g c =
     let upper = subst (λ (t : Triangle). IsUpper (length t.rows) t) c.self.view_is c.self.invariant in
     let u = c.args.self.now in
     let cost = item_read c.args.c.now c.args.p c.index-c-p.result (omega (arith, c.requires.position, c.requires.vector)) c.index-c-p.is in
-    let stored = column_read u c.args.p c.index.result.now (omega (arith, upper.column_count, c.requires.position)) (subst (λ (t : Triangle). c.index.result.now ≡ get_or t.columns c.args.p c.index.result.now) c.self.view_is c.index.ensures) in
+    let stored = column_read u c.args.p c.index.result.now (omega (arith, upper.column_count, c.requires.position))
+    (subst (λ (t : Triangle). c.index.result.now ≡ get_or t.columns c.args.p c.index.result.now) c.self.view_is c.index.ensures) in
     item_settles _ u c.args.c.now c.args.z.now c.args.p c.index-c-p.result c.row_of-row.result _ cost c.row_of-row.ensures.value stored _ c.in-Ok.rest c.diagonal.result c.div.result
     c.gather.ensures.width c.diagonal.ensures.value c.in-Ok.ensures.settled c.div.ensures.answer
 
@@ -18,5 +19,6 @@ returns-in-Err-clause-settled g c =
     let upper = subst (λ (t : Triangle). IsUpper (length t.rows) t) c.self.view_is c.self.invariant in
     let u = c.args.self.now in
     let cost = item_read c.args.c.now c.args.p c.index-c-p.result (omega (arith, c.requires.position, c.requires.vector)) c.index-c-p.is in
-    let stored = column_read u c.args.p c.index.result.now (omega (arith, upper.column_count, c.requires.position)) (subst (λ (t : Triangle). c.index.result.now ≡ get_or t.columns c.args.p c.index.result.now) c.self.view_is c.index.ensures) in
+    let stored = column_read u c.args.p c.index.result.now (omega (arith, upper.column_count, c.requires.position))
+    (subst (λ (t : Triangle). c.index.result.now ≡ get_or t.columns c.args.p c.index.result.now) c.self.view_is c.index.ensures) in
     item_stops _ u c.args.c.now c.args.z.now c.args.p c.index-c-p.result c.row_of-row.result _ cost c.row_of-row.ensures.value stored c.in-Err.ensures.settled

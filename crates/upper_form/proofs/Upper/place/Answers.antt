@@ -21,12 +21,14 @@ pub returns-in-Ok-clause-settled : goal.returns-in-Ok-clause-settled
 returns-in-Ok-clause-settled g c =
     let upper = subst (λ (t : Triangle). IsUpper (length t.rows) t) c.self.view_is c.self.invariant in
     let u = c.args.self.now in
-    let stored = column_read u c.args.p c.index.result.now (omega (arith, upper.column_count, c.requires.position)) (subst (λ (t : Triangle). c.index.result.now ≡ get_or t.columns c.args.p c.index.result.now) c.self.view_is c.index.ensures) in
+    let stored = column_read u c.args.p c.index.result.now (omega (arith, upper.column_count, c.requires.position))
+    (subst (λ (t : Triangle). c.index.result.now ≡ get_or t.columns c.args.p c.index.result.now) c.self.view_is c.index.ensures) in
     place_settles _ u c.args.v.now c.args.p c.args.x c.args.row _ c.requires.row stored c.subtract.new.v c.in-Ok.ensures.settled
 
 pub returns-in-Err-clause-settled : goal.returns-in-Err-clause-settled
 returns-in-Err-clause-settled g c =
     let upper = subst (λ (t : Triangle). IsUpper (length t.rows) t) c.self.view_is c.self.invariant in
     let u = c.args.self.now in
-    let stored = column_read u c.args.p c.index.result.now (omega (arith, upper.column_count, c.requires.position)) (subst (λ (t : Triangle). c.index.result.now ≡ get_or t.columns c.args.p c.index.result.now) c.self.view_is c.index.ensures) in
+    let stored = column_read u c.args.p c.index.result.now (omega (arith, upper.column_count, c.requires.position))
+    (subst (λ (t : Triangle). c.index.result.now ≡ get_or t.columns c.args.p c.index.result.now) c.self.view_is c.index.ensures) in
     place_stops _ u c.args.v.now c.args.p c.args.x c.args.row _ c.requires.row stored c.in-Err.ensures.settled

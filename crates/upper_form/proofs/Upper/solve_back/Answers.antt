@@ -59,7 +59,8 @@ returns-in_err-item-clause-settled g c =
     let walk = solve_positions u c.args.c.now c.loop-next.out in
     let parts = ap (λ o. walk (rest o u.order)) c.in-Some.is ∙ ap walk c.after-next.ensures.rest in
     let go = λ (item : ℚ). solve_positions u c.args.c.now (set c.loop-next.out (row_of u p) item) (rest next u.order) in
-    refused _ _ _ (λ _. c.loop-next.out) (step_stops _ _ c.loop-next.invariant.width (back_item u c.args.c.now c.loop-next.out p) go _ parts _ c.loop-next.invariant.left c.in_err-item.ensures.settled) c.from_residual.ensures.1
+    refused _ _ _ (λ _. c.loop-next.out) (step_stops _ _ c.loop-next.invariant.width
+    (back_item u c.args.c.now c.loop-next.out p) go _ parts _ c.loop-next.invariant.left c.in_err-item.ensures.settled) c.from_residual.ensures.1
 
 pub returns-clause-settled : goal.returns-clause-settled
 returns-clause-settled g c =

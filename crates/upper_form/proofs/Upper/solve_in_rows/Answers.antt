@@ -18,7 +18,8 @@ loop-next-preserved g c =
       position = c.before-next.ensures.position;
       width = c.solve_position.ensures.width ∙ c.loop-next.invariant.width;
       length = c.solve_position.auto.v ∙ c.loop-next.invariant.length;
-      left = step_settles _ _ c.loop-next.invariant.width (solve_one u c.loop-next.v p) (λ r. solve_rows u r (rest next left)) _ parts _ c.loop-next.invariant.left _ c.in_ok-solve_position.ensures.settled;
+      left = step_settles _ _ c.loop-next.invariant.width (solve_one u c.loop-next.v p)
+          (λ r. solve_rows u r (rest next left)) _ parts _ c.loop-next.invariant.left _ c.in_ok-solve_position.ensures.settled;
       unfit = c.in_ok-solve_position.ensures.unfit ∙ c.loop-next.invariant.unfit;
       work =
           omega (
@@ -36,7 +37,8 @@ returns-in_err-solve_position-clause-settled g c =
     let p = c.in-Some.p in
     let next = c.before-next.result in
     let parts = ap (λ o. solve_rows u c.loop-next.v (rest o left)) c.in-Some.is ∙ ap (solve_rows u c.loop-next.v) c.before-next.ensures.rest in
-    refused _ _ _ (λ _. c.solve_position.new.v) (step_stops _ _ c.loop-next.invariant.width (solve_one u c.loop-next.v p) (λ r. solve_rows u r (rest next left)) _ parts _ c.loop-next.invariant.left c.in_err-solve_position.ensures.settled) c.from_residual.ensures.1
+    refused _ _ _ (λ _. c.solve_position.new.v) (step_stops _ _ c.loop-next.invariant.width (solve_one u c.loop-next.v p)
+    (λ r. solve_rows u r (rest next left)) _ parts _ c.loop-next.invariant.left c.in_err-solve_position.ensures.settled) c.from_residual.ensures.1
 
 pub returns-clause-settled : goal.returns-clause-settled
 returns-clause-settled g c =

@@ -10,7 +10,8 @@ returns-in-Ok-clause-settled g c =
     let v = c.args.v.now in
     let row = c.row_of-row.result in
     let item = item_read v row c.index-v-row.result (omega (arith, c.row_of-row.ensures.within, c.requires.length)) c.index-v-row.is ∙ ap (λ r. at v r) c.row_of-row.ensures.value in
-    placed _ u v c.args.p c.index-v-row.result item c.diagonal.result c.diagonal.ensures.value _ c.in-Ok.x c.place.result c.place.new.v c.div.ensures.same_width c.in-Ok.ensures.answer c.place.ensures.settled
+    placed _ u v c.args.p c.index-v-row.result item c.diagonal.result c.diagonal.ensures.value _ c.in-Ok.x c.place.result c.place.new.v c.div.ensures.same_width
+    c.in-Ok.ensures.answer c.place.ensures.settled
 
 pub returns-in-Err-clause-settled : goal.returns-in-Err-clause-settled
 returns-in-Err-clause-settled g c =

@@ -1,0 +1,14 @@
+pub mod Values
+pub mod EndLaws
+pub mod Adding
+pub mod Contributions
+pub mod Tests
+pub mod Walking
+pub mod Opposite
+pub mod Scatter
+pub mod Answered
+pub mod Decided
+pub mod ItemLaws
+pub mod Holding
+pub mod Marked
+pub mod Told

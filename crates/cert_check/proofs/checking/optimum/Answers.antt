@@ -1,0 +1,31 @@
+use Rattle.std.proofs.Common.{Ok, Err, sym, ◌∙◌}
+use Rattle.cert_check.proofs.Walking.{handed_on, judged-alone, stops, walk-then}
+use Rattle.cert_check.proofs.checking.optimum.Goals as goal
+
+pub returns-in_err-point-clause-first : goal.returns-in_err-point-clause-first
+returns-in_err-point-clause-first g c =
+    handed_on _ c.from_residual.result c.in_err-point.field-0.0 (stops _ _ _ _ (stops _ _ _ _ (stops _ _ _ _ c.in_err-point.ensures.first))) c.from_residual.ensures.1
+
+pub returns-in_err-judge-clause-first : goal.returns-in_err-judge-clause-first
+returns-in_err-judge-clause-first g c =
+    handed_on _ c.from_residual-in_err-judge.result c.in_err-judge.field-0.0
+    (stops _ _ _ _ (stops _ _ _ _ (walk-then _ _ _ _ c.point.ensures.width c.in_ok-point.ensures.first (Err c.in_err-judge.field-0.0)
+    (judged-alone _ _ _ c.stated_objective.result (Err c.in_err-judge.field-0.0)
+    (sym c.in_err-judge.was ∙ c.judge.ensures) c.stated_objective.ensures.settled)))) c.from_residual-in_err-judge.ensures.1
+
+pub returns-in_err-each-clause-first : goal.returns-in_err-each-clause-first
+returns-in_err-each-clause-first g c =
+    handed_on _ c.from_residual-in_err-each.result c.in_err-each.field-0.0
+    (stops _ _ _ _ (walk-then _ _ _ _ (c.stated_objective.ensures.width ∙ c.point.ensures.width)
+    (walk-then _ _ _ _ c.point.ensures.width c.in_ok-point.ensures.first (Ok tt)
+    (judged-alone _ _ _ c.stated_objective.result (Ok tt) (sym c.in_ok-judge.was ∙ c.judge.ensures) c.stated_objective.ensures.settled))
+    (Err c.in_err-each.field-0.0) c.in_err-each.ensures.first)) c.from_residual-in_err-each.ensures.1
+
+pub returns-clause-first : goal.returns-clause-first
+returns-clause-first g c =
+    walk-then _ _ _ _ (c.each.ensures.width ∙ (c.stated_objective.ensures.width ∙ c.point.ensures.width))
+    (walk-then _ _ _ _ (c.stated_objective.ensures.width ∙ c.point.ensures.width)
+    (walk-then _ _ _ _ c.point.ensures.width c.in_ok-point.ensures.first (Ok tt)
+    (judged-alone _ _ _ c.stated_objective.result (Ok tt) (sym c.in_ok-judge.was ∙ c.judge.ensures) c.stated_objective.ensures.settled))
+    (Ok tt) c.in_ok-each.ensures.first)
+    c.each-2.result c.each-2.ensures.first

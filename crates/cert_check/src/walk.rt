@@ -1,0 +1,144 @@
+//! The walk over the items of an outcome, up to the first that stops it.
+ghost use Rattle.std.specs.Prelude.{◌≡◌, ◌<◌, ◌≤◌, ◌-◌, ◌^◌};
+ghost use Rattle.exact_frac.specs.Count.{unfit_after};
+ghost use Rattle.exact_frac.specs.Settles.{Settles};
+ghost use Rattle.lp_model.specs.Deck.{IsDeck};
+ghost use Rattle.cert_check.specs.Inner.Groups.{AreGiven, FirstIs, IsAhead, count_of, items_of, rule_of, stopped, sums_of, unfit_by, verdict_of};
+ghost use Rattle.cert_check.specs.Walk.{first_stop};
+
+use crate::groups::Group;
+use crate::items::{
+    column, endless_column, endless_row, price, ray_column, ray_row, reduced_cost, row,
+};
+use crate::verdict::{CheckFault, Rule, Stop, Verdict};
+use deck_model::Deck;
+use exact_frac::{Arith, Frac, Unfit};
+
+// The rule of a group's item.
+fn rule_of(group: Group, k: usize) -> Rule
+    requires { k < 2 ^ 32 }
+    ensures { result ≡ rule_of group k }
+{
+    let k = k as u32;
+    match group {
+        Group::Columns => Rule::Column(k),
+        Group::Rows => Rule::Row(k),
+        Group::Reduced => Rule::Reduced(k),
+        Group::Prices => Rule::Price(k),
+        Group::EndlessColumns => Rule::EndlessColumn(k),
+        Group::EndlessRows => Rule::EndlessRow(k),
+        Group::RayColumns => Rule::RayColumn(k),
+        Group::RayRows => Rule::RayRow(k),
+    }
+}
+
+// How many items a group has.
+fn count_of(deck: &Deck, group: Group) -> usize
+    ensures count { result ≡ count_of group deck.now }
+    ensures few { result < 2 ^ 32 }
+    ensures deck { IsDeck deck.now }
+{
+    match group {
+        Group::Columns | Group::Reduced | Group::EndlessColumns | Group::RayColumns =>
+            deck.columns(),
+        Group::Rows | Group::Prices | Group::EndlessRows | Group::RayRows => deck.rows(),
+    }
+}
+
+// What a group's item works, and whether it holds.
+fn sums_of<A: Arith>(
+    deck: &Deck,
+    group: Group,
+    x: &[Frac],
+    y: &[Frac],
+    ahead: &[Frac],
+    k: usize,
+    arith: &mut A,
+) -> Result<bool, Unfit>
+    requires item { k < count_of group deck.now }
+    requires given { AreGiven group deck.now x.now y.now }
+    requires ahead { IsAhead (A.width arith.old) deck.now x.now ahead.now }
+    ensures settled { Settles (A.width arith.old) (sums_of group deck.now x.now y.now k) result }
+    ensures width { A.width arith.new ≡ A.width arith.old }
+    ensures unfit { A.unfit_count arith.new ≡ unfit_after (A.unfit_count arith.old) result }
+{
+    match group {
+        Group::Columns => column(deck, x, k, arith),
+        Group::Rows => row(deck, x, ahead, k, arith),
+        Group::Reduced => reduced_cost(deck, x, y, k, arith),
+        Group::Prices => price(deck, x, y, ahead, k, arith),
+        Group::EndlessColumns => endless_column(deck, y, k, arith),
+        Group::EndlessRows => endless_row(deck, y, k, arith),
+        Group::RayColumns => ray_column(deck, x, k, arith),
+        Group::RayRows => ray_row(deck, x, ahead, k, arith),
+    }
+}
+
+/// What an item whose sums settle so says of its rule.
+pub(crate) fn judge(rule: Rule, sums: Result<bool, Unfit>) -> Result<(), Stop>
+    ensures { result ≡ stopped rule sums }
+{
+    match sums {
+        Ok(true) => Ok(()),
+        Ok(false) => Err(Stop::Broken(rule)),
+        Err(_) => Err(Stop::Unfit(rule)),
+    }
+}
+
+// The items of a group from one number up to another.
+fn look<A: Arith>(
+    deck: &Deck,
+    group: Group,
+    x: &[Frac],
+    y: &[Frac],
+    ahead: &[Frac],
+    from: usize,
+    to: usize,
+    arith: &mut A,
+) -> Result<(), Stop>
+    requires ordered { from ≤ to }
+    requires within { to ≤ count_of group deck.now }
+    requires few { to < 2 ^ 32 }
+    requires given { AreGiven group deck.now x.now y.now }
+    requires ahead { IsAhead (A.width arith.old) deck.now x.now ahead.now }
+    ensures first { FirstIs (first_stop (A.width arith.old) (items_of group deck.now x.now y.now from (to - from))) result }
+    ensures width { A.width arith.new ≡ A.width arith.old }
+    ensures unfit { A.unfit_count arith.new ≡ unfit_by (A.unfit_count arith.old) result }
+{
+    for k in from..to {
+        let sums = sums_of(deck, group, x, y, ahead, k, arith);
+        judge(rule_of(group, k), sums)?;
+    }
+    Ok(())
+}
+
+/// All items of a group.
+pub(crate) fn each<A: Arith>(
+    deck: &Deck,
+    group: Group,
+    x: &[Frac],
+    y: &[Frac],
+    ahead: &[Frac],
+    arith: &mut A,
+) -> Result<(), Stop>
+    requires given { AreGiven group deck.now x.now y.now }
+    requires ahead { IsAhead (A.width arith.old) deck.now x.now ahead.now }
+    ensures first { FirstIs (first_stop (A.width arith.old) (items_of group deck.now x.now y.now 0 (count_of group deck.now))) result }
+    ensures deck { IsDeck deck.now }
+    ensures width { A.width arith.new ≡ A.width arith.old }
+    ensures unfit { A.unfit_count arith.new ≡ unfit_by (A.unfit_count arith.old) result }
+{
+    let count = count_of(deck, group);
+    look(deck, group, x, y, ahead, 0, count, arith)
+}
+
+/// What is answered where a walk ends so.
+pub(crate) fn verdict(walked: Result<(), Stop>) -> Result<Verdict, CheckFault>
+    ensures { result ≡ verdict_of walked }
+{
+    match walked {
+        Ok(()) => Ok(Verdict::Yes),
+        Err(Stop::Broken(rule)) => Ok(Verdict::No(rule)),
+        Err(Stop::Unfit(rule)) => Err(CheckFault::Overflow(rule)),
+    }
+}

@@ -1,0 +1,4 @@
+pub mod Steps
+pub mod Stored
+pub mod Reduced
+pub mod Updated

@@ -1,0 +1,35 @@
+-- Each step takes the next product.
+use Rattle.std.proofs.Common.{ℕ, ◌+◌, ◌<◌, length, length-drop, ◌∙◌, arith}
+use Rattle.rational.specs.Rational.{ℚ}
+use Rattle.rational.proofs.Loops.{step_settles, step_stops, all_worked}
+use Rattle.sparse_steps.proofs.Steps.{refused}
+use Rattle.factor_model.specs.Upper.{cell}
+use Rattle.ft_update.proofs.Steps.{less_parts, less_ends}
+use Rattle.ft_update.proofs.multipliers.less_entries.Goals as goal
+
+pub returns-in_err-rest-clause-settled : goal.returns-in_err-rest-clause-settled
+returns-in_err-rest-clause-settled g c =
+    let ks = c.args.taken.now in
+    let j = c.loop-row.row-index in
+    let item : ℕ → ℚ = λ i. cell c.args.upper.now i c.args.s in
+    let lt : j < length ks = omega arith in
+    refused _ _ _ (λ x. x) (step_stops _ _ c.loop-row.invariant.width _ _ _ (less_parts item ks j c.loop-row-item.result c.loop-row.rest c.entry.result lt
+    c.loop-row-item.is c.entry.ensures) _ c.loop-row.invariant.left c.in_err-rest.ensures.settled) c.from_residual.ensures.1
+
+pub loop-row-preserved : goal.loop-row-preserved
+loop-row-preserved g c =
+    let ks = c.args.taken.now in
+    let j = c.loop-row.row-index in
+    let item : ℕ → ℚ = λ i. cell c.args.upper.now i c.args.s in
+    let lt : j < length ks = omega arith in
+    record {
+      width = c.in_ok-rest.ensures.width ∙ c.loop-row.invariant.width;
+      left = step_settles _ _ c.loop-row.invariant.width _ _ _ (less_parts item ks j c.loop-row-item.result c.loop-row.rest c.entry.result lt c.loop-row-item.is
+          c.entry.ensures) _ c.loop-row.invariant.left _ c.in_ok-rest.ensures.settled;
+      unfit = c.in_ok-rest.ensures.unfit ∙ c.loop-row.invariant.unfit;
+      work = omega (arith, length-drop j ks, length-drop (j + 1) ks);
+    }
+
+pub returns-clause-settled : goal.returns-clause-settled
+returns-clause-settled g c =
+    all_worked _ _ _ _ (less_ends (λ i. cell c.args.upper.now i c.args.s) c.args.taken.now c.loop-row.row-index c.loop-row.rest (omega arith)) c.loop-row.invariant.left

@@ -1,0 +1,11 @@
+use Rattle.ft_update.proofs.Steps.{multiplier_settles, multiplier_stops}
+use Rattle.ft_update.proofs.multipliers.multiplier.Goals as goal
+
+pub returns-in-Ok-clause-settled : goal.returns-in-Ok-clause-settled
+returns-in-Ok-clause-settled g c =
+    multiplier_settles _ c.args.upper.now c.args.row c.args.taken.now c.args.s c.entry-entry.result c.entry-entry.ensures _ c.in-Ok.rest c.diagonal.result c.div.result
+    c.less_entries.ensures.width c.diagonal.ensures.value c.in-Ok.ensures.settled c.div.ensures.answer
+
+pub returns-in-Err-clause-settled : goal.returns-in-Err-clause-settled
+returns-in-Err-clause-settled g c =
+    multiplier_stops _ c.args.upper.now c.args.row c.args.taken.now c.args.s c.entry-entry.result c.entry-entry.ensures c.in-Err.ensures.settled

@@ -1,0 +1,2 @@
+-- inner: what only the crate's own functions cite
+pub mod Rows

@@ -1,0 +1,2 @@
+-- inner: what the parts of a check answer.
+pub mod Checking

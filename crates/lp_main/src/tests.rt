@@ -1,0 +1,66 @@
+//! The top call over ends in memory that fail.
+
+use crate::status::Status;
+use crate::top::run_alone;
+use exact_frac::Full127;
+use io_ends::{MemSink, MemSource};
+use std::alloc::Global;
+use std::test::Fail;
+use std::thread::Threads;
+
+const DECK: &[u8] =
+    b"NAME          T\nROWS\n N  COST\n L  R1\nCOLUMNS\n    X         COST      -1             R1        1\nRHS\n    S         R1        3\nENDATA\n";
+
+/// The status of a solve.
+fn solved<R: Threads + Sync>(
+    rt: &R,
+    alloc: Global,
+    source: &mut MemSource,
+    out: &mut MemSink,
+    err: &mut MemSink,
+) -> Result<Status, Fail> {
+    let mut words = Vec::new(alloc);
+    words.push(String::from_str(alloc, "solve")?)?;
+    words.push(String::from_str(alloc, "--report=1")?)?;
+    let mut arith = Full127::new();
+    Ok(run_alone(rt, alloc, &words, source, out, err, &mut arith))
+}
+
+#[test]
+fn a_failed_read_has_its_line(rt: HostRuntime) -> Result<(), Fail> {
+    let alloc = rt.alloc();
+    let mut source = MemSource::new(Vec::from_slice(alloc, DECK)?, vec![in alloc; 1]?);
+    let mut out = MemSink::new(alloc, 1000, Vec::new(alloc))?;
+    let mut err = MemSink::new(alloc, 1000, Vec::new(alloc))?;
+    let status = solved(&rt, alloc, &mut source, &mut out, &mut err)?;
+    assert_eq!(rt; status, Status::ReadFault);
+    assert_eq!(rt; out.bytes(), b"".as_slice());
+    assert_eq!(rt; err.bytes(), b"lp: read failed\n".as_slice());
+    Ok(())
+}
+
+#[test]
+fn a_failed_write_leaves_a_beginning(rt: HostRuntime) -> Result<(), Fail> {
+    let alloc = rt.alloc();
+    let mut source = MemSource::new(Vec::from_slice(alloc, DECK)?, Vec::new(alloc));
+    let mut out = MemSink::new(alloc, 1000, vec![in alloc; 2]?)?;
+    let mut err = MemSink::new(alloc, 1000, Vec::new(alloc))?;
+    let status = solved(&rt, alloc, &mut source, &mut out, &mut err)?;
+    assert_eq!(rt; status, Status::WriteFault);
+    assert_eq!(rt; out.bytes(), b"LPCERT 1\n".as_slice());
+    assert_eq!(rt; err.bytes(), b"lp: write failed\n".as_slice());
+    Ok(())
+}
+
+#[test]
+fn a_fault_keeps_its_status_where_it_cannot_be_said(rt: HostRuntime) -> Result<(), Fail> {
+    let alloc = rt.alloc();
+    let mut source = MemSource::new(Vec::from_slice(alloc, b"ROWS\n Q  R1\n")?, Vec::new(alloc));
+    let mut out = MemSink::new(alloc, 1000, Vec::new(alloc))?;
+    let mut err = MemSink::new(alloc, 1000, vec![in alloc; 1]?)?;
+    let status = solved(&rt, alloc, &mut source, &mut out, &mut err)?;
+    assert_eq!(rt; status, Status::BadInput);
+    assert_eq!(rt; out.bytes(), b"".as_slice());
+    assert_eq!(rt; err.bytes(), b"".as_slice());
+    Ok(())
+}
