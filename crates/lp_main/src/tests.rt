@@ -2,7 +2,7 @@
 
 use crate::status::Status;
 use crate::top::run_alone;
-use exact_frac::Full127;
+use exact_frac::{Arith, Full127, Narrow};
 use io_ends::{MemSink, MemSource};
 use std::alloc::Global;
 use std::test::Fail;
@@ -11,18 +11,22 @@ use std::thread::Threads;
 const DECK: &[u8] =
     b"NAME          T\nROWS\n N  COST\n L  R1\nCOLUMNS\n    X         COST      -1             R1        1\nRHS\n    S         R1        3\nENDATA\n";
 
+/// A deck whose run meets numbers of 4 bits.
+const NARROW: &[u8] =
+    b"NAME          T\nROWS\n N  COST\n L  R1\n L  R2\nCOLUMNS\n    X         COST      -3             R1        1\n    X         R2        -1\n    Z         COST      -3             R2        1\n    W         COST      -14            R1        5\n    W         R2        -4\nRHS\n    S         R1        1              R2        1\nENDATA\n";
+
 /// The status of a solve.
-fn solved<R: Threads + Sync>(
+fn solved<R: Threads + Sync, A: Arith>(
     rt: &R,
     alloc: Global,
     source: &mut MemSource,
     out: &mut MemSink,
     err: &mut MemSink,
+    mut arith: A,
 ) -> Result<Status, Fail> {
     let mut words = Vec::new(alloc);
     words.push(String::from_str(alloc, "solve")?)?;
     words.push(String::from_str(alloc, "--report=1")?)?;
-    let mut arith = Full127::new();
     Ok(run_alone(rt, alloc, &words, source, out, err, &mut arith))
 }
 
@@ -32,7 +36,7 @@ fn a_failed_read_has_its_line(rt: HostRuntime) -> Result<(), Fail> {
     let mut source = MemSource::new(Vec::from_slice(alloc, DECK)?, vec![in alloc; 1]?);
     let mut out = MemSink::new(alloc, 1000, Vec::new(alloc))?;
     let mut err = MemSink::new(alloc, 1000, Vec::new(alloc))?;
-    let status = solved(&rt, alloc, &mut source, &mut out, &mut err)?;
+    let status = solved(&rt, alloc, &mut source, &mut out, &mut err, Full127::new())?;
     assert_eq!(rt; status, Status::ReadFault);
     assert_eq!(rt; out.bytes(), b"".as_slice());
     assert_eq!(rt; err.bytes(), b"lp: read failed\n".as_slice());
@@ -45,7 +49,7 @@ fn a_failed_write_leaves_a_beginning(rt: HostRuntime) -> Result<(), Fail> {
     let mut source = MemSource::new(Vec::from_slice(alloc, DECK)?, Vec::new(alloc));
     let mut out = MemSink::new(alloc, 1000, vec![in alloc; 2]?)?;
     let mut err = MemSink::new(alloc, 1000, Vec::new(alloc))?;
-    let status = solved(&rt, alloc, &mut source, &mut out, &mut err)?;
+    let status = solved(&rt, alloc, &mut source, &mut out, &mut err, Full127::new())?;
     assert_eq!(rt; status, Status::WriteFault);
     assert_eq!(rt; out.bytes(), b"LPCERT 1\n".as_slice());
     assert_eq!(rt; err.bytes(), b"lp: write failed\n".as_slice());
@@ -58,9 +62,41 @@ fn a_fault_keeps_its_status_where_it_cannot_be_said(rt: HostRuntime) -> Result<(
     let mut source = MemSource::new(Vec::from_slice(alloc, b"ROWS\n Q  R1\n")?, Vec::new(alloc));
     let mut out = MemSink::new(alloc, 1000, Vec::new(alloc))?;
     let mut err = MemSink::new(alloc, 1000, vec![in alloc; 1]?)?;
-    let status = solved(&rt, alloc, &mut source, &mut out, &mut err)?;
+    let status = solved(&rt, alloc, &mut source, &mut out, &mut err, Full127::new())?;
     assert_eq!(rt; status, Status::BadInput);
     assert_eq!(rt; out.bytes(), b"".as_slice());
     assert_eq!(rt; err.bytes(), b"".as_slice());
+    Ok(())
+}
+
+#[test]
+fn four_bits_are_enough(rt: HostRuntime) -> Result<(), Fail> {
+    let alloc = rt.alloc();
+    let mut source = MemSource::new(Vec::from_slice(alloc, NARROW)?, Vec::new(alloc));
+    let mut out = MemSink::new(alloc, 1000, Vec::new(alloc))?;
+    let mut err = MemSink::new(alloc, 1000, Vec::new(alloc))?;
+    let status = solved(&rt, alloc, &mut source, &mut out, &mut err, Narrow::new(4))?;
+    assert_eq!(rt; status, Status::Done);
+    assert_eq!(rt;
+        out.bytes(),
+        b"LPCERT 1\nDECK T\nOPTIMAL\nOBJECTIVE -9\nVALUE 1 X\nVALUE 2 Z\nVALUE 0 W\nPRICE -6 R1\nPRICE -3 R2\nEND\n".as_slice()
+    );
+    assert_eq!(rt; err.bytes(), b"".as_slice());
+    Ok(())
+}
+
+#[test]
+fn three_bits_are_too_few(rt: HostRuntime) -> Result<(), Fail> {
+    let alloc = rt.alloc();
+    let mut source = MemSource::new(Vec::from_slice(alloc, NARROW)?, Vec::new(alloc));
+    let mut out = MemSink::new(alloc, 1000, Vec::new(alloc))?;
+    let mut err = MemSink::new(alloc, 1000, Vec::new(alloc))?;
+    let status = solved(&rt, alloc, &mut source, &mut out, &mut err, Narrow::new(3))?;
+    assert_eq!(rt; status, Status::Overflow);
+    assert_eq!(rt; out.bytes(), b"".as_slice());
+    assert_eq!(rt;
+        err.bytes(),
+        b"lp: overflow at number 0, cost, row -, column 2\n".as_slice()
+    );
     Ok(())
 }
