@@ -1,5 +1,5 @@
 """Draws decks: by changes of lines, and from nothing."""
-from second_reader import BYTES, COLUMNS, ENTRIES, ROWS
+from second_reader import BYTES, COLUMNS, ENTRIES, FIELDS, LINE, ROWS, TOKEN
 
 PIECES = [
     piece.encode()
@@ -132,3 +132,73 @@ def past(limit, lines):
         more = [b"*" + b"x" * 999] * (BYTES // 1000 + 1)
     at = lines.index(b"COLUMNS") + (limit == "columns")
     return lines[:at] + more + lines[at:]
+
+
+# Pieces of a line in free form.
+TOKENS = [piece.encode() for piece in "1E30 -1e30 1D2 .5 -.5 5. . 0 1/2 'MARKER' R1 X1 COST S UP LO FX FR MI PL BV SC XX N L G E QQ".split()]
+SENSES = [word.encode() for word in "MAX MAXIMIZE MAXIMISE MIN MINIMIZE MINIMISE max Maximise mIn MAXI MINUS MAX-".split()]
+
+
+def freed(line, chance):
+    """A line in fixed columns as one in free form; a card of data may lose its set, and names lose their blanks."""
+    if not line or line[:1] == b"*":
+        return line
+    if line[:1] != b" ":
+        return b" ".join([word for word in line.split(b" ") if word])
+    fields = [line[first - 1 : last].strip(b" ").replace(b" ", b"_") for first, last in FIELDS]
+    tokens = [field for field in fields if field]
+    gaps = [b" " * chance.choice((1, 1, 1, 2, 5)) for _ in tokens]
+    return b"".join(gap + token for gap, token in zip(gaps, tokens)) + b" " * chance.choice((0, 0, 0, 1, 3)) + b"\r" * (chance.random() < 0.05)
+
+
+def without_sets(lines, chance):
+    """The lines in free form without the name of the sets, here or there or throughout."""
+    share = chance.choice((0.0, 0.0, 0.1, 1.0))
+    bounds, found = False, []
+    for line in lines:
+        tokens = line.split()
+        bounds = bounds if line[:1] == b" " else line[:6] == b"BOUNDS"
+        at = 1 if bounds else 0
+        if line[:1] == b" " and tokens[at : at + 1] == [b"S"] and chance.random() < share:
+            line = b" " + b" ".join(tokens[:at] + tokens[at + 1 :])
+        found.append(line)
+    return found
+
+
+def with_sense(lines, chance):
+    """The lines with a section of the sense: in its place mostly, with the word on its card or on the next."""
+    word, at = chance.choice(SENSES[: chance.choice((2, 9, 12))]), 1
+    if chance.random() < 0.1:
+        at = chance.randrange(len(lines) + 1)
+    more = chance.choice(([b"OBJSENSE " + word], [b"OBJSENSE", b"    " + word], [b"OBJSENSE", b"* a comment", b"   " + word + b" more"]))
+    if chance.random() < 0.1:
+        more = chance.choice(([b"OBJSENSE"], [b"OBJSENSE", b"    " + word, b"    " + word], more + [b"OBJSENSE " + word], [*more, b"   MAX"]))
+    return lines[:at] + more + lines[at:]
+
+
+def change_free(lines, chance):
+    """Changes a line in free form."""
+    here, there = chance.randrange(len(lines)), chance.randrange(len(lines))
+    tokens = lines[here].split()
+    at, kind = chance.randrange(len(tokens) + 1), chance.randrange(10)
+    lead = b"" if lines[here][:1] not in (b" ", b"") else b" "
+    if kind == 0:
+        del lines[here]
+    elif kind == 1:
+        lines.insert(here, lines[there])
+    elif kind == 2:
+        lines[here], lines[there] = lines[there], lines[here]
+    elif kind == 3:
+        lines[here] = lead + b" ".join(tokens[:at] + tokens[at + 1 :])
+    elif kind == 4:
+        lines[here] = lead + b" ".join(tokens[:at] + [chance.choice(TOKENS)] + tokens[at:])
+    elif kind == 5:
+        lines[here] = lead + b" ".join(tokens[:at] + [chance.choice(TOKENS)] + tokens[at + 1 :])
+    elif kind == 6:
+        lines[here] = lead + b" ".join(tokens[:at] + [b"T" * chance.choice((TOKEN, TOKEN + 1))] + tokens[at + 1 :])
+    elif kind == 7:
+        lines[here] = lines[here].ljust(chance.choice((LINE, LINE + 1))) + b"\r" * chance.randrange(2)
+    elif kind == 8:
+        lines[here] = lines[here].ljust(chance.choice((LINE - 1, LINE, 10))) + bytes([chance.choice(b"\t\x7f\rX")])
+    else:
+        lines.insert(here, b" " * chance.choice((0, 61, LINE, LINE + 1)))

@@ -76,13 +76,13 @@ def words_for(text):
     return WORDS[zlib.crc32(text) % len(WORDS)]
 
 
-def wanted(text, by_solver=True):
+def wanted(text, by_solver=True, free=False):
     """What the program must answer: a kind, the status, the line on standard error, the bytes written (none: a report to be judged), and a solved deck.
 
     A deck has one run, so the second solver's report is the program's byte for byte, and so is the place of the first value that does not fit.
     """
     try:
-        deck = read(text)
+        deck = read(text, free)
     except Fault as fault:
         line = str(fault)
         kind = line.split(": ", 2)[-1].split(" after ")[0].rstrip(" 0123456789")
@@ -114,11 +114,11 @@ def fault_of_report(deck, written):
     return None
 
 
-def judge(text, by_solver=True, seconds=120):
+def judge(text, by_solver=True, seconds=120, free=False):
     """The kind of answer that a text must have, and what is wrong with the program's, if anything is."""
-    kind, status, line, bytes_written, deck = wanted(text, by_solver)
+    kind, status, line, bytes_written, deck = wanted(text, by_solver, free)
     try:
-        done = subprocess.run([LP, *words_for(text)], input=text, capture_output=True, timeout=seconds)
+        done = subprocess.run([LP, *words_for(text), *(["--free"] if free else [])], input=text, capture_output=True, timeout=seconds)
     except subprocess.TimeoutExpired:
         return kind, f"it does not end within {seconds} seconds"
     said = done.stderr.decode(errors="replace").removesuffix("\n")

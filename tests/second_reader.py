@@ -1,5 +1,5 @@
 #!/usr/bin/env python3
-"""A second reader of fixed MPS, written from docs/FORMATS.md and apart from lp's: the deck of a text, or its first fault.
+"""A second reader of fixed MPS and of its free form, written from docs/FORMATS.md and apart from lp's: the deck of a text, or its first fault.
 
 With the word --limits it prints the limits of a deck: rows, columns, entries and bytes.
 """
@@ -23,6 +23,10 @@ ROWS, COLUMNS, ENTRIES, BYTES = limits()
 INFINITY = Fraction(10) ** 30
 GAPS = (4, 13, 14, 23, 24, 37, 38, 39, 48, 49)
 FIELDS = ((2, 3), (5, 12), (15, 22), (25, 36), (40, 47), (50, 61))
+LINE, TOKEN = 255, 64
+MARKER = b"'MARKER'"
+SENSES = {b"MAX": -1, b"MAXIMIZE": -1, b"MAXIMISE": -1, b"MIN": 1, b"MINIMIZE": 1, b"MINIMISE": 1}
+INTEGERS, NUMBERED, UNNUMBERED = (b"BV", b"LI", b"UI", b"SC"), (b"UP", b"LO", b"FX"), (b"FR", b"MI", b"PL")
 NUMBER = re.compile(rb"([+-]?)(?:(\d+)(?:\.(\d*))?|\.(\d+))(?:[EeDd]([+-]?)(\d+))?")
 
 
@@ -87,9 +91,10 @@ def number(text):
 
 
 class Reader:
-    """A deck as far as its lines have come."""
+    """A deck as far as its lines have come. The sense is None while none is given, and awaited where the next card is to have it."""
 
-    def __init__(self):
+    def __init__(self, free=False):
+        self.free_form, self.sense, self.awaits_sense = free, None, False
         self.line, self.used = 0, 0
         self.begun, self.title = [], b""
         self.kinds, self.free = {}, []
@@ -107,40 +112,105 @@ class Reader:
         self.used += len(raw) + ended
         if self.used > BYTES:
             raise self.fault("limit of bytes")
-        text = raw.removesuffix(b"\r")[:61]
-        if text[:1] == b"*" or not text.strip(b" "):
+        text = raw.removesuffix(b"\r")
+        text = text if self.free_form else text[:61]
+        words = [word for word in text.split(b" ") if word]
+        if text[:1] == b"*" or (not words and not self.free_form):
             return False
-        if any(byte < 32 or byte > 126 for byte in text):
+        if any(byte < 32 or byte > 126 for byte in text[:LINE]):
             raise self.fault("byte not printable")
-        text = text.ljust(61)
+        if self.free_form and (len(text) > LINE or any(len(word) > TOKEN for word in words)):
+            raise self.fault("token")
+        if not words:
+            return False
         if text[:1] != b" ":
-            if text.split(b" ")[0] == b"NAME":
-                self.title = text[14:22].strip(b" ")
-            return self.begin(text.split(b" ")[0])
-        for column in GAPS:
-            if text[column - 1 : column] != b" ":
-                raise self.fault(f"column {column}")
-        self.take_data([None] + [text[first - 1 : last].strip(b" ") for first, last in FIELDS])
+            names = words[1:2] if self.free_form else [text[14:22].strip(b" ")]
+            return self.begin(words[0], words[1:2], names)
+        if self.awaits_sense:
+            self.take_sense(words[0])
+        elif self.free_form:
+            section = self.section_of_data()
+            self.take_data(section, self.fields_of(section, words))
+        else:
+            text = text.ljust(61)
+            for column in GAPS:
+                if text[column - 1 : column] != b" ":
+                    raise self.fault(f"column {column}")
+            section = self.section_of_data()
+            fields = [None] + [text[first - 1 : last].strip(b" ") for first, last in FIELDS]
+            if section == b"COLUMNS" and MARKER in (fields[3], fields[4]):
+                raise self.fault("integer")
+            self.take_data(section, fields)
         return False
 
-    def begin(self, word):
+    def take_sense(self, word):
+        self.sense, self.awaits_sense = SENSES.get(word.upper()), False
+        if self.sense is None:
+            raise self.fault("sense")
+
+    def begin(self, word, second, names):
+        if self.awaits_sense:
+            raise self.fault("sense")
+        if word == b"OBJSENSE" and second and second[0].upper() not in SENSES:
+            raise self.fault("sense")
         rows, columns = b"ROWS" in self.begun, b"COLUMNS" in self.begun
         may_begin = {b"NAME": not self.begun, b"ROWS": not rows, b"COLUMNS": rows and not columns, b"ENDATA": columns}
+        may_begin[b"OBJSENSE"] = not rows and b"OBJSENSE" not in self.begun
         for later in (b"RHS", b"RANGES", b"BOUNDS"):
             may_begin[later] = columns and later not in self.begun
         if not may_begin.get(word):
             raise self.fault("section")
         self.begun.append(word)
         self.set, self.named = None, set()
+        if word == b"NAME":
+            self.title = names[0] if names else b""
+        elif word == b"OBJSENSE" and second:
+            self.take_sense(second[0])
+        elif word == b"OBJSENSE":
+            self.awaits_sense = True
         return word == b"ENDATA"
 
-    def take_data(self, fields):
+    def section_of_data(self):
+        """The section that admits a card of data here."""
         section = self.begun[-1] if self.begun else None
+        if section == b"OBJSENSE":
+            raise self.fault("sense")
+        if section not in (b"ROWS", b"COLUMNS", b"RHS", b"RANGES", b"BOUNDS"):
+            raise self.fault("section")
+        return section
+
+    def judge_kind(self, kind):
+        if kind in INTEGERS:
+            raise self.fault("integer")
+        if kind not in NUMBERED + UNNUMBERED:
+            raise self.fault("bound")
+
+    def fields_of(self, section, words):
+        """The fields that the tokens of a card are: kind, name or set, and two pairs."""
+        count, none = len(words), [None, b"", b""]
+        if section == b"COLUMNS" and words[1:2] == [MARKER]:
+            raise self.fault("integer")
+        if section == b"BOUNDS":
+            self.judge_kind(words[0])
+        if section == b"ROWS" and count == 2:
+            fields = [None, *words]
+        elif section == b"COLUMNS" and count in (3, 5):
+            fields = [None, b"", *words]
+        elif section in (b"RHS", b"RANGES") and count in (2, 3, 4, 5):
+            fields = none[: 2 if count % 2 else 3] + words
+        elif section == b"BOUNDS" and count in ((3, 4) if words[0] in NUMBERED else (2, 3, 4)):
+            without_set = count == (3 if words[0] in NUMBERED else 2)
+            fields = [None, words[0], *([b""] if without_set else []), *words[1:]]
+        else:
+            raise self.fault("token")
+        return fields + [b""] * (7 - len(fields))
+
+    def take_data(self, section, fields):
         if section == b"ROWS":
             self.take_row(fields)
         elif section == b"COLUMNS":
             self.take_column(fields)
-        elif section in (b"RHS", b"RANGES", b"BOUNDS"):
+        else:
             self.set = fields[2] if self.set is None else self.set
             if fields[2] != self.set:
                 return
@@ -148,8 +218,6 @@ class Reader:
                 self.take_bound(fields)
             else:
                 self.take_pairs(fields, self.rights if section == b"RHS" else self.ranges)
-        else:
-            raise self.fault("section")
 
     def take_row(self, fields):
         kind, name = fields[1], fields[2]
@@ -165,8 +233,6 @@ class Reader:
             self.kinds[name] = kind
 
     def take_column(self, fields):
-        if b"'MARKER'" in (fields[3], fields[4]):
-            raise self.fault("integer")
         name = fields[2]
         if name not in self.bounds:
             if len(self.bounds) >= COLUMNS:
@@ -203,13 +269,10 @@ class Reader:
 
     def take_bound(self, fields):
         kind, name = fields[1], fields[3]
-        if kind in (b"BV", b"LI", b"UI", b"SC"):
-            raise self.fault("integer")
-        if kind not in (b"UP", b"LO", b"FX", b"FR", b"MI", b"PL"):
-            raise self.fault("bound")
+        self.judge_kind(kind)
         if name not in self.bounds:
             raise self.fault("unknown column")
-        value = number(fields[4]) if kind in (b"UP", b"LO", b"FX") else Fraction(0)
+        value = number(fields[4]) if kind in NUMBERED else Fraction(0)
         if value is None:
             raise self.fault("number")
         if (value >= INFINITY and kind in (b"LO", b"FX")) or (value <= -INFINITY and kind in (b"UP", b"FX")):
@@ -240,12 +303,12 @@ class Reader:
             numbers = self.numbers[name]
             entries = {at[row]: value for row, value in numbers.items() if row in at and value != 0}
             columns.append(Column(name, numbers.get(objective, Fraction(0)), dict(sorted(entries.items())), *ends))
-        return Deck(self.title, objective, rows, columns, -self.rights.get(objective, Fraction(0)), self.line)
+        return Deck(self.title, objective, rows, columns, -self.rights.get(objective, Fraction(0)), self.line, self.sense or 1)
 
 
-def read(text):
-    """The deck of a text; its first fault is raised."""
-    reader, lines = Reader(), text.split(b"\n")
+def read(text, free=False):
+    """The deck of a text, in fixed columns or in free form; its first fault is raised."""
+    reader, lines = Reader(free), text.split(b"\n")
     ended = [(line, True) for line in lines[:-1]] + ([(lines[-1], False)] if lines[-1] else [])
     for line, is_ended in ended:
         if reader.take(line, is_ended):

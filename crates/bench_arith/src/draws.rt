@@ -1,6 +1,7 @@
 // Streams of operands, drawn from a fixed seed.
 ghost use Rattle.std.specs.Prelude.{◌<◌, ◌^◌};
 
+use bench_draws::Draws;
 use exact_frac::Frac;
 
 /// Which operands a stream holds.
@@ -41,12 +42,6 @@ impl Stream {
     }
 }
 
-const SEED: u64 = 20_260_701;
-
-const MULTIPLIER: u64 = 6_364_136_223_846_793_005;
-
-const INCREMENT: u64 = 1_442_695_040_888_963_407;
-
 /// One more than the largest number of 64 bits.
 const WORD: u128 = 0x1_0000_0000_0000_0000;
 
@@ -56,22 +51,18 @@ const HALF: u128 = 0x4000_0000_0000_0000_0000_0000_0000_0000;
 /// The largest signed number of 64 bits.
 const WIDE: u64 = 0x7fff_ffff_ffff_ffff;
 
-/// A linear congruential generator.
+/// Operands, drawn one after another.
 #[derive(Drop)]
-pub struct Draws {
-    state: u64,
+pub struct Operands {
+    draws: Draws,
 }
 
-impl Draws {
-    /// The generator at its seed.
-    pub fn new() -> Draws {
-        Draws { state: SEED }
-    }
-
-    /// The next word. Its low half takes in the high half, since the low bits of the state repeat soon.
-    fn word(&mut self) -> u64 {
-        self.state = self.state.wrapping_mul(MULTIPLIER).wrapping_add(INCREMENT);
-        self.state ^ (self.state >> 32)
+impl Operands {
+    /// The first operands.
+    pub fn new() -> Operands {
+        Operands {
+            draws: Draws::new(),
+        }
     }
 
     /// The size of a part.
@@ -80,16 +71,16 @@ impl Draws {
         ensures below { result < 2 ^ 127 }
     {
         match stream {
-            Stream::Small => (self.word() % 1_000) as u128 + 1,
-            Stream::Wide => (self.word() % WIDE) as u128 + 1,
+            Stream::Small => (self.draws.word() % 1_000) as u128 + 1,
+            Stream::Wide => (self.draws.word() % WIDE) as u128 + 1,
             Stream::Full => {
-                let high = self.word() as u128;
-                let low = self.word() as u128;
+                let high = self.draws.word() as u128;
+                let low = self.draws.word() as u128;
                 (high * WORD + low) % HALF + HALF
             }
             Stream::Mixed => {
-                let most = self.word() >> 2;
-                (most >> (self.word() % 62)) as u128 + 1
+                let most = self.draws.word() >> 2;
+                (most >> (self.draws.word() % 62)) as u128 + 1
             }
         }
     }
@@ -103,7 +94,7 @@ impl Draws {
         ensures some { 0 < result }
         ensures below { result < 2 ^ 127 }
     {
-        let choice = self.word() % 4;
+        let choice = self.draws.word() % 4;
         if choice == 0 {
             return left_denom;
         }
@@ -120,7 +111,7 @@ impl Draws {
         ensures some { 0 < result }
         ensures below { result < 2 ^ 127 }
     {
-        let choice = self.word() % 4;
+        let choice = self.draws.word() % 4;
         if choice == 0 {
             return 1;
         }
@@ -166,7 +157,7 @@ impl Draws {
         requires denom_below { denom < 2 ^ 127 }
     {
         let fraction = Frac::of(size as i128, denom as i128);
-        if self.word() % 2 == 0 {
+        if self.draws.word() % 2 == 0 {
             fraction
         } else {
             fraction.negated()

@@ -9,13 +9,11 @@
 //!   that the cost of the draws can be taken away.
 //! - **The contract.** Safety alone: what an operation answers is promised by `exact_frac`. No contract
 //!   speaks of the checksum, of the streams beyond the range of their parts, or of any cost.
-//! - **Sources.** The generator is the linear congruential one of Knuth's MMIX, and the checksum is FNV-1a
-//!   over words of 64 bits (Fowler, Noll and Vo).
-//! - **Stands on** `exact_frac`.
+//! - **Stands on** `exact_frac`, and on `bench_draws` for what it draws and for its checksum.
 #![tactic(auto)]
 
-use checksum::Checksum;
-use draws::{Draws, Stream};
+use checksum::Sum;
+use draws::{Operands, Stream};
 use exact_frac::{Arith, Full127};
 use operation::Operation;
 use std::alloc::AllocError;
@@ -38,11 +36,11 @@ struct Summary {
 
 /// Draws that many pairs of the stream, and applies the operation to each.
 fn run(stream: Stream, operation: Operation, count: u32) -> Summary {
-    let mut draws = Draws::new();
+    let mut operands = Operands::new();
     let mut arith = Full127::new();
-    let mut checksum = Checksum::new();
+    let mut checksum = Sum::new();
     for _ in 0..count {
-        let (left, right) = draws.pair(stream);
+        let (left, right) = operands.pair(stream);
         checksum.fold(left);
         checksum.fold(right);
         checksum.fold_answer(operation.answer(&mut arith, left, right));

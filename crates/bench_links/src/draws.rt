@@ -2,16 +2,11 @@
 ghost use Rattle.std.specs.Prelude.{◌≡◌, ◌<◌, ◌≤◌, ◌^◌, IfOk, length};
 ghost use Rattle.std.specs.List.{All};
 
+use bench_draws::Draws;
 use exact_frac::Frac;
 use no_memory::Memory;
 use sparse_cols::SparseCol;
 use std::alloc::Global;
-
-const SEED: u64 = 20_260_701;
-
-const MULTIPLIER: u64 = 6_364_136_223_846_793_005;
-
-const INCREMENT: u64 = 1_442_695_040_888_963_407;
 
 /// How many entries a column gets, where it has as many rows.
 const ENTRIES: usize = 5;
@@ -66,30 +61,16 @@ impl Shape {
     }
 }
 
-/// A linear congruential generator.
+/// The columns of a matrix, drawn one after another.
 #[derive(Drop)]
-struct Draws {
-    state: u64,
+struct Drawing {
+    draws: Draws,
 }
 
-impl Draws {
-    /// The next word. Its low half takes in the high half, since the low bits of the state repeat soon.
-    fn word(&mut self) -> u64 {
-        self.state = self.state.wrapping_mul(MULTIPLIER).wrapping_add(INCREMENT);
-        self.state ^ (self.state >> 32)
-    }
-
-    /// The next row.
-    fn row(&mut self, size: usize) -> usize
-        requires { 0 < size }
-        ensures { result < size }
-    {
-        (self.word() % size as u64) as usize
-    }
-
+impl Drawing {
     /// The next value, an integer from 1 to 9.
     fn value(&mut self) -> Frac {
-        Frac::of((self.word() % 9) as i128 + 1, 1)
+        Frac::of((self.draws.word() % 9) as i128 + 1, 1)
     }
 
     /// Column `c`. Its diagonal is drawn first in a triangular matrix.
@@ -110,7 +91,7 @@ impl Draws {
             let drawn = if column.count() == 0 && bound < size {
                 c
             } else {
-                self.row(bound)
+                self.draws.below(bound)
             };
             let r = shape.place(drawn, size);
             if column.count() < ENTRIES && column.get(r).is_none() {
@@ -127,10 +108,12 @@ pub fn columns(alloc: Global, shape: Shape, size: usize) -> Result<Vec<SparseCol
     ensures columns { IfOk result (λ columns. length columns.items ≡ size) }
     ensures rows { IfOk result (λ columns. All (λ column. column.length ≡ size) columns.items) }
 {
-    let mut draws = Draws { state: SEED };
+    let mut drawn = Drawing {
+        draws: Draws::new(),
+    };
     let mut columns = Vec::with_capacity(alloc, size)?;
     for c in 0..size {
-        columns.push(draws.column(alloc, shape, c, size)?)?;
+        columns.push(drawn.column(alloc, shape, c, size)?)?;
     }
     Ok(columns)
 }

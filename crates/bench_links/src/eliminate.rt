@@ -3,7 +3,7 @@ ghost use Rattle.std.specs.Prelude.{◌≡◌, ◌<◌, true, IfOk, MatchOption}
 ghost use Rattle.std.specs.List.{All};
 ghost use Rattle.cross_links.specs.Matrix.{is_active, Has, IsLink, IsMatrix};
 
-use crate::checksum::Checksum;
+use bench_draws::Checksum;
 use cross_links::Cross;
 use exact_frac::Frac;
 use no_memory::Memory;

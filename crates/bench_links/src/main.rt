@@ -15,14 +15,13 @@
 //!   by plain lists.
 //! - **The contract.** Safety alone: what `least` answers is promised by `cross_links`. No contract speaks of the
 //!   checksum, of how the matrix is drawn, of what the scan finds, or of any instructions.
-//! - **Sources.** The generator is the linear congruential one of Knuth's MMIX, and the checksum is FNV-1a
-//!   over words of 64 bits (Fowler, Noll and Vo).
-//! - **Stands on** `cross_links`, and on `sparse_cols` and `exact_frac` for the columns that it loads.
+//! - **Stands on** `cross_links`, on `sparse_cols` and `exact_frac` for the columns that it loads, and on `bench_draws` for what it
+//!   draws and for its checksum.
 #![tactic(auto)]
 
 ghost use Rattle.std.specs.Prelude.{◌<◌, ◌^◌};
 
-use checksum::Checksum;
+use bench_draws::Checksum;
 use cross_links::Cross;
 use draws::Shape;
 use no_memory::Memory;
@@ -32,7 +31,6 @@ use std::process::ExitCode;
 use std::rt::Env;
 use std::{env, io};
 
-mod checksum;
 mod draws;
 mod eliminate;
 mod scan;

@@ -2,9 +2,9 @@
 ghost use Rattle.std.specs.Prelude.{◌≡◌, IfSome};
 ghost use Rattle.cross_links.specs.Matrix.{IsLink, IsMatrix};
 
-use crate::checksum::Checksum;
 use crate::eliminate::eliminate;
 use crate::scan::scan;
+use bench_draws::Checksum;
 use cross_links::Cross;
 use no_memory::Memory;
 use std::alloc::Global;

@@ -110,7 +110,7 @@ start_not_basic i = by_ends i.lower i.upper
     by_ends None (Some u) e = cc e
     by_ends (Some l) upper e = cc e
 
-starts_at : (i : Interval) → resting_value (structural_start i) i ≡ start_value i
+pub starts_at : (i : Interval) → resting_value (structural_start i) i ≡ start_value i
 starts_at i = by_ends i.lower i.upper
   where
     by_ends : (lower upper : Option ℚ) → resting_value (structural_start (ends lower upper)) (ends lower upper) ≡ start_value (ends lower upper)

@@ -68,7 +68,7 @@ few_entries inst h k pairs below same = subst (λ pairs. length pairs ≤ row_co
 turned : (i k : ℕ) (v : ℚ) → at_index i k v ≡ at_index k i v
 turned i k v = at_or_other (λ i. at_index i k v ≡ at_index k i v) k i refl (λ other. at_index-other i k v other ∙ sym (at_index-other k i v (λ e. other (sym e))))
 
-coefficient_entry : (inst : Instance) (i : ℕ) (kind : ColumnKind) → kind_coefficient inst i kind ≡ entry_at (kind_entries inst kind) i
+pub coefficient_entry : (inst : Instance) (i : ℕ) (kind : ColumnKind) → kind_coefficient inst i kind ≡ entry_at (kind_entries inst kind) i
 coefficient_entry inst i (column.Structural k) = refl
 coefficient_entry inst i (column.Logical k) = turned i k one_ℚ
 coefficient_entry inst i (column.Artificial k) = turned i k (sign_past (passed_side inst k))

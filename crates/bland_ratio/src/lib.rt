@@ -29,7 +29,7 @@ mod quotients;
 mod ratio_test;
 mod tickets;
 
-pub use pricing::{choose, eligible, first_stopper, improves};
+pub use pricing::{choose, eligible, first_stopper, improves, price};
 pub use ratio_test::{Leave, RatioUnfit, leaving};
 pub use tickets::{Choice, Pay, Ticket};
 

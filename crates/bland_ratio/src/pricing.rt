@@ -168,9 +168,11 @@ fn cost_of<A: Arith>(
     }
 }
 
-// The reduced cost of a column at the prices of the rows.
+/// The reduced cost of a column at the prices of the rows: its cost less the product of each entry with the price of its
+/// row, by rising rows; products of a zero factor are skipped. `Unfit` comes exactly where a product or a difference
+/// does not fit the width. At most m products are worked, and no memory is taken.
 #[tactic(auto, using(exact_frac::specs::Constants::constants))]
-fn price<A: Arith>(
+pub fn price<A: Arith>(
     inst: &Instance,
     phase: Phase,
     prices: &[Frac],

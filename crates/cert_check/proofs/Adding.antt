@@ -22,15 +22,6 @@ pub skipped-right : (r s : Bool) (a b : ℚ) → IsTrue r ↔ (a ≡ zero_ℚ) �
 unfolding is_skipped
 skipped-right r s a b left e right = sym (ap₂ (λ t u. t || u) (eq_ℚ-tested r a left ∙ e) (eq_ℚ-tested s b right))
 
--- an entry that is looked up, or 0
-pub entry-found : (pairs : List (ℕ × ℚ)) (i : ℕ) → unwrap_or (value_at pairs i) zero_ℚ ≡ entry_at pairs i
-entry-found [] i = refl
-entry-found ((k, v) ∷ pairs) i = by_test (eqb k i) (entry-found pairs i)
-  where
-    by_test : (b : Bool) → unwrap_or (value_at pairs i) zero_ℚ ≡ entry_at pairs i → unwrap_or (cond b (Some v) (value_at pairs i)) zero_ℚ ≡ cond b v (entry_at pairs i)
-    by_test true h = refl
-    by_test false h = h
-
 -- ── over indices ──
 
 pub next_index : (k n : ℕ) → k < n → range_with_len k (n - k) ≡ k ∷ range_with_len (k + 1) (n - (k + 1))

@@ -4,6 +4,7 @@ pub mod Adding
 pub mod Contributions
 pub mod Tests
 pub mod Walking
+pub mod Halves
 pub mod Opposite
 pub mod Scatter
 pub mod Answered

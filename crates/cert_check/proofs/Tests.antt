@@ -4,6 +4,7 @@ use Rattle.std.specs.Option.{is_none}
 use Rattle.lp_model.specs.declared.Sense.{Sense}
 use Rattle.lp_model.specs.Deck.{in_sense}
 use Rattle.rational.specs.Rational.{ℚ}
+use Rattle.rational.proofs.OrderLaws.{is_lt-cmp_ℚ}
 use Rattle.cert_check.specs.Items.{allows}
 
 pub allows-like : {c d : ℚ} {a a' b b' : Bool} → c ≡ d → a ≡ a' → b ≡ b' → allows c a b ≡ allows d a' b'
@@ -18,3 +19,6 @@ none-test true None e = refl
 none-test true (Some v) e = absurd (cc e)
 none-test false None e = absurd (cc e)
 none-test false (Some v) e = refl
+
+-- less, as the order is told by a comparison
+pub ruleset less = is_lt-cmp_ℚ

@@ -18,6 +18,7 @@ use crate::walk::{each, judge, verdict};
 use deck_model::{Basis, Deck, Outcome};
 use exact_frac::{Arith, Frac};
 use std::alloc::Global;
+use std::thread::Threads;
 
 /// Whether the lists of an outcome prove it for a deck, and whether a stated objective is that of the point. The outcome's
 /// lists have a number for each column, or for each row.
@@ -27,13 +28,16 @@ use std::alloc::Global;
 /// gap. Where a basis is told, its items follow: the basis itself, then where the columns of a point that are not basic
 /// stand, then that basic columns cost nothing. That they are independent is not asked. The numbers of the basis are
 /// columns of the deck's equations, of which there are one for each column and two for each row. The first item that does
-/// not hold, or whose worked values do not all fit the width, decides. `Yes` proves the outcome. `No` has the rule of the first item that does not hold; each item before it holds.
+/// not hold, or whose worked values do not all fit the width, decides. `Yes` proves the outcome. `No` has the rule of the
+/// first item that does not hold; each item before it holds. Where a deck has many columns some items are looked at in
+/// threads, which end before the call does.
 ///
 /// # Errors
 ///
 /// `Overflow` with the rule of the first item of which a worked value does not fit; each item before it holds. The count
 /// of unfit results rises by one just there. `Memory` for want of memory.
-pub fn check<A: Arith>(
+pub fn check<R: Threads + Sync, A: Arith>(
+    rt: &R,
     alloc: Global,
     deck: &Deck,
     outcome: &Outcome,
@@ -48,13 +52,14 @@ pub fn check<A: Arith>(
     ensures unfit { A.unfit_count arith.new ≡ unfit_after_check (A.unfit_count arith.old) result }
 {
     match basis {
-        None => walked(alloc, deck, outcome, arith),
-        Some(basis) => with_basis(alloc, deck, outcome, basis, arith),
+        None => walked(rt, alloc, deck, outcome, arith),
+        Some(basis) => with_basis(rt, alloc, deck, outcome, basis, arith),
     }
 }
 
 // What the walk of an outcome and of a basis comes to.
-fn with_basis<A: Arith>(
+fn with_basis<R: Threads + Sync, A: Arith>(
+    rt: &R,
     alloc: Global,
     deck: &Deck,
     outcome: &Outcome,
@@ -68,7 +73,7 @@ fn with_basis<A: Arith>(
     ensures width { A.width arith.new ≡ A.width arith.old }
     ensures unfit { A.unfit_count arith.new ≡ unfit_after_check (A.unfit_count arith.old) result }
 {
-    match walked(alloc, deck, outcome, arith) {
+    match walked(rt, alloc, deck, outcome, arith) {
         Ok(Verdict::Yes) => told(alloc, deck, outcome, basis, arith),
         Ok(Verdict::No(rule)) => Ok(Verdict::No(rule)),
         Err(fault) => Err(fault),
@@ -76,7 +81,8 @@ fn with_basis<A: Arith>(
 }
 
 // What the walk of an outcome comes to.
-fn walked<A: Arith>(
+fn walked<R: Threads + Sync, A: Arith>(
+    rt: &R,
     alloc: Global,
     deck: &Deck,
     outcome: &Outcome,
@@ -92,20 +98,26 @@ fn walked<A: Arith>(
         Outcome::Optimal { x, y, objective } => {
             let (x, y, stated) = (x.as_slice(), y.as_slice(), *objective);
             let ahead = activities(alloc, deck, x, arith)?;
-            verdict(optimum(deck, x, y, stated, &ahead, arith))
+            verdict(optimum(rt, deck, x, y, stated, &ahead, arith))
         }
-        Outcome::Infeasible { y } => verdict(farkas(deck, y.as_slice(), arith)),
+        Outcome::Infeasible { y } => verdict(farkas(rt, deck, y.as_slice(), arith)),
         Outcome::Unbounded { x, ray } => {
             let (x, ray) = (x.as_slice(), ray.as_slice());
             let ahead = activities(alloc, deck, x, arith)?;
             let along = activities(alloc, deck, ray, arith)?;
-            verdict(endless(deck, x, ray, &ahead, &along, arith))
+            verdict(endless(rt, deck, x, ray, &ahead, &along, arith))
         }
     }
 }
 
 // Columns and rows of a point.
-fn point<A: Arith>(deck: &Deck, x: &[Frac], ahead: &[Frac], arith: &mut A) -> Result<(), Stop>
+fn point<R: Threads + Sync, A: Arith>(
+    rt: &R,
+    deck: &Deck,
+    x: &[Frac],
+    ahead: &[Frac],
+    arith: &mut A,
+) -> Result<(), Stop>
     requires given { length x.now ≡ length deck.now.columns }
     requires ahead { IsAhead (A.width arith.old) deck.now x.now ahead.now }
     ensures first { FirstIs (first_stop (A.width arith.old) (point_walk deck.now x.now)) result }
@@ -113,12 +125,13 @@ fn point<A: Arith>(deck: &Deck, x: &[Frac], ahead: &[Frac], arith: &mut A) -> Re
     ensures width { A.width arith.new ≡ A.width arith.old }
     ensures unfit { A.unfit_count arith.new ≡ unfit_by (A.unfit_count arith.old) result }
 {
-    each(deck, Group::Columns, x, &[], ahead, arith)?;
-    each(deck, Group::Rows, x, &[], ahead, arith)
+    each(rt, deck, Group::Columns, x, &[], ahead, arith)?;
+    each(rt, deck, Group::Rows, x, &[], ahead, arith)
 }
 
 // The items of an optimum.
-fn optimum<A: Arith>(
+fn optimum<R: Threads + Sync, A: Arith>(
+    rt: &R,
     deck: &Deck,
     x: &[Frac],
     y: &[Frac],
@@ -134,27 +147,33 @@ fn optimum<A: Arith>(
     ensures width { A.width arith.new ≡ A.width arith.old }
     ensures unfit { A.unfit_count arith.new ≡ unfit_by (A.unfit_count arith.old) result }
 {
-    point(deck, x, ahead, arith)?;
+    point(rt, deck, x, ahead, arith)?;
     judge(Rule::Objective, stated_objective(deck, x, stated, arith))?;
-    each(deck, Group::Reduced, x, y, ahead, arith)?;
-    each(deck, Group::Prices, x, y, ahead, arith)
+    each(rt, deck, Group::Reduced, x, y, ahead, arith)?;
+    each(rt, deck, Group::Prices, x, y, ahead, arith)
 }
 
 // The items of a Farkas row.
-fn farkas<A: Arith>(deck: &Deck, y: &[Frac], arith: &mut A) -> Result<(), Stop>
+fn farkas<R: Threads + Sync, A: Arith>(
+    rt: &R,
+    deck: &Deck,
+    y: &[Frac],
+    arith: &mut A,
+) -> Result<(), Stop>
     requires { length y.now ≡ length deck.now.rows }
     ensures first { FirstIs (first_stop (A.width arith.old) (outcome_walk deck.now (infeasible y.now))) result }
     ensures deck { IsDeck deck.now }
     ensures width { A.width arith.new ≡ A.width arith.old }
     ensures unfit { A.unfit_count arith.new ≡ unfit_by (A.unfit_count arith.old) result }
 {
-    each(deck, Group::EndlessColumns, &[], y, &[], arith)?;
-    each(deck, Group::EndlessRows, &[], y, &[], arith)?;
+    each(rt, deck, Group::EndlessColumns, &[], y, &[], arith)?;
+    each(rt, deck, Group::EndlessRows, &[], y, &[], arith)?;
     judge(Rule::Gap, gap(deck, y, arith))
 }
 
 // The items of a ray.
-fn endless<A: Arith>(
+fn endless<R: Threads + Sync, A: Arith>(
+    rt: &R,
     deck: &Deck,
     x: &[Frac],
     ray: &[Frac],
@@ -171,8 +190,8 @@ fn endless<A: Arith>(
     ensures width { A.width arith.new ≡ A.width arith.old }
     ensures unfit { A.unfit_count arith.new ≡ unfit_by (A.unfit_count arith.old) result }
 {
-    point(deck, x, ahead, arith)?;
-    each(deck, Group::RayColumns, ray, &[], along, arith)?;
-    each(deck, Group::RayRows, ray, &[], along, arith)?;
+    point(rt, deck, x, ahead, arith)?;
+    each(rt, deck, Group::RayColumns, ray, &[], along, arith)?;
+    each(rt, deck, Group::RayRows, ray, &[], along, arith)?;
     judge(Rule::RayCost, ray_cost(deck, ray, arith))
 }

@@ -3,6 +3,7 @@ ghost use Rattle.std.specs.Prelude.{◌≡◌, ◌<◌, length};
 ghost use Rattle.exact_frac.specs.Count.{unfit_after};
 ghost use Rattle.exact_frac.specs.Settles.{Settles};
 ghost use Rattle.lp_model.specs.Deck.{row as row_at};
+ghost use Rattle.rational.specs.Rational.{lt_ℚ};
 ghost use Rattle.cert_check.specs.Inner.Groups.{IsAhead, exceeded, priced_by, within_interval};
 ghost use Rattle.cert_check.specs.Items.{column_item, endless_column_item, endless_row_item, gap_item, objective_item, price_item, ray_column_item, ray_cost_item, ray_row_item, reduced_item, row_item};
 ghost use Rattle.cert_check.specs.Sums.{activity_sum};
@@ -246,9 +247,17 @@ fn is_exceeded<A: Arith>(deck: &Deck, y: &[Frac], most: Frac, arith: &mut A) -> 
     ensures unfit { A.unfit_count arith.new ≡ unfit_after (A.unfit_count arith.old) result }
 {
     match right_side(deck, y, arith) {
-        Ok(right) => Ok(most < right),
+        Ok(right) => Ok(is_less(most, right)),
         Err(unfit) => Err(unfit),
     }
+}
+
+// Whether one number is less than another.
+#[tactic(auto, using(crate::proofs::Tests::less))]
+fn is_less(a: Frac, b: Frac) -> bool
+    ensures { result ≡ lt_ℚ a b }
+{
+    a < b
 }
 
 /// A column's item of a ray fits, and is on a side of 0 on which the column has no end.

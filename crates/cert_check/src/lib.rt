@@ -14,10 +14,13 @@
 //!
 //! **Method.** Weak duality, Farkas' lemma and rays of unbounded programs, as in Schrijver, *Theory of Linear and Integer Programming*,
 //! chapter 7. The activities of all rows are worked in one pass over the columns; where a value does not fit there, each row is worked
-//! for itself, in the order of the walk. Memory is taken for these activities and for the marks of a basis.
+//! for itself, in the order of the walk. Memory is taken for these activities and for the marks of a basis. Reduced costs, and the
+//! combinations of a Farkas row, are looked at by halves of halves in threads where there are many; the answer and the counts are those of
+//! one thread.
 //!
 //! It stands on `deck_model` for decks, outcomes and bases, on `sparse_steps` and `sparse_cols` for the sums of a column, on
-//! `exact_frac` for numbers, and on `lp_model` and `rational` for the definitions. It reads no word of the method of a solver.
+//! `exact_frac` for numbers, on `rayon` for threads, and on `lp_model` and `rational` for the definitions. It reads no word of the
+//! method of a solver.
 #![tactic(auto)]
 
 mod ahead;

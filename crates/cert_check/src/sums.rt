@@ -3,13 +3,13 @@ ghost use Rattle.std.specs.Prelude.{◌≡◌, ◌<◌, ◌≤◌, length};
 ghost use Rattle.std.specs.List.{list_all};
 ghost use Rattle.exact_frac.specs.Count.{unfit_after};
 ghost use Rattle.exact_frac.specs.Settles.{Settles};
-ghost use Rattle.lp_model.specs.Deck.{column as column_at, entry as entry_of};
+ghost use Rattle.lp_model.specs.Deck.{column as column_at};
 ghost use Rattle.rational.specs.Worked.{is_skipped};
 ghost use Rattle.cert_check.specs.Sums.{activity_sum, added, cost_sum, cost_terms, entry_terms, objective_sum, reduced_sum, right_sum, weighted_sum};
 
 use deck_model::Deck;
 use exact_frac::{Arith, Frac, Unfit};
-use sparse_steps::{gather, more_product};
+use sparse_steps::{entry, gather, more_product};
 
 /// The activity of a row at `v`, an item for each column.
 #[tactic(auto, using(exact_frac::specs::Constants::constants))]
@@ -26,18 +26,9 @@ pub(crate) fn activity<A: Arith>(
 {
     let mut sum = Frac::ZERO;
     for j in 0..deck.columns() {
-        sum = more_product(sum, entry(deck, row, j), v[j], arith)?;
+        sum = more_product(sum, entry(deck.column(j), row), v[j], arith)?;
     }
     Ok(sum)
-}
-
-// The entry of a deck in a row and a column.
-#[tactic(auto, using(exact_frac::specs::Constants::constants))]
-fn entry(deck: &Deck, row: usize, column: usize) -> Frac
-    requires { column < length deck.now.columns }
-    ensures { result ≡ entry_of deck.now row column }
-{
-    deck.column(column).get(row).unwrap_or(Frac::ZERO)
 }
 
 /// The objective at `x`, an item for each column.

@@ -1,9 +1,10 @@
 //! The walk over the items of an outcome, up to the first that stops it.
 ghost use Rattle.std.specs.Prelude.{◌≡◌, ◌<◌, ◌≤◌, ◌-◌, ◌^◌};
+ghost use Rattle.std.specs.Thread.{IsSync};
 ghost use Rattle.exact_frac.specs.Count.{unfit_after};
 ghost use Rattle.exact_frac.specs.Settles.{Settles};
 ghost use Rattle.lp_model.specs.Deck.{IsDeck};
-ghost use Rattle.cert_check.specs.Inner.Groups.{AreGiven, FirstIs, IsAhead, count_of, items_of, rule_of, stopped, sums_of, unfit_by, verdict_of};
+ghost use Rattle.cert_check.specs.Inner.Groups.{AreGiven, CanLook, FirstIs, IsAhead, Looks, count_of, items_of, rule_of, stopped, sums_of, unfit_by, verdict_of};
 ghost use Rattle.cert_check.specs.Walk.{first_stop};
 
 use crate::groups::Group;
@@ -13,6 +14,8 @@ use crate::items::{
 use crate::verdict::{CheckFault, Rule, Stop, Verdict};
 use deck_model::Deck;
 use exact_frac::{Arith, Frac, Unfit};
+use rayon::join_mut;
+use std::thread::Threads;
 
 // The rule of a group's item.
 fn rule_of(group: Group, k: usize) -> Rule
@@ -112,8 +115,103 @@ fn look<A: Arith>(
     Ok(())
 }
 
+// How often a group is halved: its items are looked at one after another where they are few, or where the sums of each are
+// short.
+fn depth_for(group: Group, count: usize) -> u32 {
+    match group {
+        Group::Reduced | Group::EndlessColumns if 2_000 <= count => 2,
+        _ => 0,
+    }
+}
+
+// The items of a group from one number up to another, by halves of halves in threads of their own while there is depth left.
+// The answer and the counts are those of the items one after another.
+#[cycle(halves)]
+fn look_all<R: Threads + Sync, A: Arith>(
+    rt: &R,
+    depth: u32,
+    deck: &Deck,
+    group: Group,
+    x: &[Frac],
+    y: &[Frac],
+    ahead: &[Frac],
+    from: usize,
+    to: usize,
+    arith: &mut A,
+) -> Result<(), Stop>
+    requires { CanLook (A.width arith.old) group deck.now x.now y.now ahead.now from to }
+    ensures first { FirstIs (first_stop (A.width arith.old) (items_of group deck.now x.now y.now from (to - from))) result }
+    ensures width { A.width arith.new ≡ A.width arith.old }
+    ensures unfit { A.unfit_count arith.new ≡ unfit_by (A.unfit_count arith.old) result }
+{
+    if depth == 0 || to - from < 2 {
+        return look(deck, group, x, y, ahead, from, to, arith);
+    }
+    let half = from + (to - from) / 2;
+    let mut own = arith.fresh();
+    let (first, second) = look_halves(
+        rt,
+        depth - 1,
+        deck,
+        group,
+        x,
+        y,
+        ahead,
+        from,
+        half,
+        half,
+        to,
+        arith,
+        &mut own,
+    );
+    // (the counts of the second half are nobody's where the first is stopped, as in turn it would not be worked)
+    match first {
+        Ok(()) => {
+            arith.absorb(own);
+            second
+        }
+        Err(stop) => Err(stop),
+    }
+}
+
+// Both halves side by side, each with an arithmetic of its own.
+#[cycle(halves)]
+fn look_halves<R: Threads + Sync, A: Arith>(
+    rt: &R,
+    depth: u32,
+    deck: &Deck,
+    group: Group,
+    x: &[Frac],
+    y: &[Frac],
+    ahead: &[Frac],
+    from: usize,
+    half: usize,
+    up: usize,
+    to: usize,
+    arith: &mut A,
+    own: &mut A,
+) -> (Result<(), Stop>, Result<(), Stop>)
+    requires low { CanLook (A.width arith.old) group deck.now x.now y.now ahead.now from half }
+    requires high { CanLook (A.width own.old) group deck.now x.now y.now ahead.now up to }
+    ensures low { Looks (A.width arith.old) (A.width arith.new) (A.unfit_count arith.old) (A.unfit_count arith.new) group deck.now x.now y.now from half result.0 }
+    ensures high { Looks (A.width own.old) (A.width own.new) (A.unfit_count own.old) (A.unfit_count own.new) group deck.now x.now y.now up to result.1 }
+{
+    let mut front = || -> Result<(), Stop>
+        requires { IsSync R.row × CanLook (A.width arith.now) group deck.now x.now y.now ahead.now from half }
+        ensures { Looks (A.width arith.entry.now) (A.width arith.exit.now) (A.unfit_count arith.entry.now) (A.unfit_count arith.exit.now)
+            group deck.entry.now x.entry.now y.entry.now from half result }
+    { look_all(rt, depth, deck, group, x, y, ahead, from, half, arith) };
+    let mut back = || -> Result<(), Stop>
+        requires { IsSync R.row × CanLook (A.width own.now) group deck.now x.now y.now ahead.now up to }
+        ensures { Looks (A.width own.entry.now) (A.width own.exit.now) (A.unfit_count own.entry.now) (A.unfit_count own.exit.now)
+            group deck.entry.now x.entry.now y.entry.now up to result }
+    { look_all(rt, depth, deck, group, x, y, ahead, up, to, own) };
+    join_mut(rt, &mut front, &mut back)
+}
+
 /// All items of a group.
-pub(crate) fn each<A: Arith>(
+pub(crate) fn each<R: Threads + Sync, A: Arith>(
+    rt: &R,
     deck: &Deck,
     group: Group,
     x: &[Frac],
@@ -129,7 +227,8 @@ pub(crate) fn each<A: Arith>(
     ensures unfit { A.unfit_count arith.new ≡ unfit_by (A.unfit_count arith.old) result }
 {
     let count = count_of(deck, group);
-    look(deck, group, x, y, ahead, 0, count, arith)
+    let depth = depth_for(group, count);
+    look_all(rt, depth, deck, group, x, y, ahead, 0, count, arith)
 }
 
 /// What is answered where a walk ends so.

@@ -7,13 +7,12 @@ use Rattle.rational.specs.Rational.{ℚ}
 use Rattle.rational.specs.Sum.{at}
 use Rattle.lp_run.specs.Ends.{Yields, HasOutcome, by_position, objective_at, point, prices_in, ray}
 use Rattle.lp_run.specs.Instance.{Instance, structural_count}
-use Rattle.lp_run.specs.Listing.{IsFirstTotal, first_unfit, total_listing}
+use Rattle.lp_run.specs.Listing.{IsFirstTotal, first_unfit, total_listing, Judges}
 use Rattle.lp_run.specs.State.{rest}
 use Rattle.lp_run.specs.Step.{direction}
 use Rattle.std.proofs.lemmas.Result.{err_from_is_err_and}
 use Rattle.rational.proofs.VectorLaws.{length-map-upto}
 use Rattle.plain_table.specs.declared.next.End.TheVariants as end
-use Rattle.plain_table.specs.Inner.Lines.{Judges}
 use Rattle.plain_table.specs.Next.{EndsBy, column, prices}
 use Rattle.plain_table.specs.Plain.{Plain, Stands}
 use Rattle.crew.specs.declared.closing.Closed.{Closed}

@@ -20,7 +20,7 @@ use Rattle.bland_laws.specs.Ends.{run_bound}
 use Rattle.bland_laws.proofs.Always.{instance_holds}
 use Rattle.bland_laws.proofs.Existence.{goes_on_or_ends}
 use Rattle.bland_laws.proofs.Runs.{ends}
-use Rattle.crew.proofs.Runs.{listed_there}
+use Rattle.plain_table.proofs.Replays.{listed_there}
 
 -- ── a run that fits ──
 

@@ -1,5 +1,5 @@
 -- From what each call of a solve says to what it says of the run.
-use Rattle.std.proofs.Common.{◌≡◌, ℕ, ◌+◌, ◌-◌, ◌≤◌, ◌<◌, ◌⊎◌, inl, inr, true, cond, List, [], ◌∷◌, ◌++◌, length, length-append, refl, sym, ◌∙◌, ap, subst, arith}
+use Rattle.std.proofs.Common.{◌≡◌, ℕ, ◌+◌, ◌-◌, ◌≤◌, ◌<◌, inl, true, cond, List, [], ◌∷◌, ◌++◌, length, length-append, refl, sym, ◌∙◌, ap, subst, arith}
 use Rattle.std.proofs.lemmas.List.{append_assoc}
 use Rattle.std.proofs.lemmas.List.Sums.{sum_by-append}
 use Rattle.lp_model.specs.declared.Entry.{Entry}
@@ -9,9 +9,7 @@ use Rattle.lp_run.specs.Instance.{Instance, IsWellFormed}
 use Rattle.lp_run.specs.Listing.{AllFit, Listed, Overflows, StartFits, StepLists, first_unfit, start_listing}
 use Rattle.lp_run.specs.Run.{IsSpent}
 use Rattle.lp_run.specs.State.{start_of}
-use Rattle.lp_run.specs.Step.{IsFinal, IsNext}
-use Rattle.lp_run.specs.Tableau.{HasTable}
-use Rattle.lp_run.specs.State.{State}
+use Rattle.lp_run.specs.Step.{IsNext}
 use Rattle.lp_run.proofs.FirstUnfit.{fit-append, unfit-append}
 use Rattle.bland_laws.proofs.Always.{instance_holds}
 use Rattle.bland_laws.proofs.Existence.{goes_on_or_ends}
@@ -21,14 +19,8 @@ use Rattle.table_laws.specs.Fitted.{HasFitted, HasOverflown}
 use Rattle.table_laws.proofs.Fitting.{fitted-more, overflows-in-step}
 use Rattle.plain_table.specs.Next.{OverflowsNext}
 use Rattle.plain_table.specs.Plain.{Plain, Stands}
-use Rattle.plain_table.proofs.Replays.{next_listed}
+use Rattle.plain_table.proofs.Replays.{listed_there}
 use Rattle.crew.specs.Inner.Parts.{IsUnderWay}
-
--- something is listed at a state that the run goes on from, or at which it ends
-pub listed_there : (inst : Instance) (k : ℕ) (s : State) → HasTable inst s → ((e : Entry) × IsNext inst s e) ⊎ IsFinal inst s → (vs : List Listed) × StepLists inst k s vs
-listed_there inst k s has (inl (e, next)) = next_listed inst s has k e next
-listed_there inst k s has (inr (inl (y, β, ends))) = (_, inr (inr (inl (y, β, ends, refl))))
-listed_there inst k s has (inr (inr ends)) = ([], inr (inr (inr (ends, refl))))
 
 module _ (w : ℕ) (inst : Instance) (budget : ℕ) where
   pub begins : (t : Plain) → IsWellFormed inst → Stands inst [] t → HasFitted w inst [] → IsUnderWay w inst budget [] t

@@ -14,9 +14,8 @@ use Rattle.rational.proofs.SumLaws.{at_or_other, sum-none, sum-suc, sum-zero_ter
 use Rattle.rational.proofs.WidthLaws.{fits_width-decides, unfit_tested}
 use Rattle.lp_run.specs.Ends.{objective_at}
 use Rattle.lp_run.specs.Instance.{Instance, structural, structural_count}
-use Rattle.lp_run.specs.Listing.{AllFit, Listed, added, first_unfit, or_first, place, total_listing}
+use Rattle.lp_run.specs.Listing.{AllFit, Listed, added, first_unfit, or_first, place, total_listing, Judges}
 use Rattle.lp_run.proofs.FirstUnfit.{fit-append, fit-placed, one-fits, one-unfit, unfit-append, unfit-placed}
-use Rattle.plain_table.specs.Inner.Lines.{Judges}
 use Rattle.crew.specs.Inner.Parts.{HasProduct, terms}
 
 -- a test that fails shows that nothing is as it asks

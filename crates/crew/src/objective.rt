@@ -4,9 +4,8 @@ ghost use Rattle.rational.specs.Rational.{zero_ℚ};
 ghost use Rattle.lp_model.specs.declared.Kind.TheVariants as kind;
 ghost use Rattle.lp_run.specs.Ends.{objective_at};
 ghost use Rattle.lp_run.specs.Instance.{structural_count};
-ghost use Rattle.lp_run.specs.Listing.{added, place, total_listing};
+ghost use Rattle.lp_run.specs.Listing.{added, place, total_listing, Judges};
 ghost use Rattle.exact_frac.specs.Count.{unfit_after};
-ghost use Rattle.plain_table.specs.Inner.Lines.{Judges};
 ghost use Rattle.crew.specs.Inner.Parts.{HasProduct, terms};
 
 use exact_frac::{Arith, Frac};

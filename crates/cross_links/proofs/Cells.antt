@@ -15,7 +15,7 @@ use Rattle.cross_links.specs.Cells.{cell, HasNoZero}
 use Rattle.cross_links.proofs.Entries.{none_some, some_from, some_entry, link_within, distinct_mapped}
 
 -- among pairs made of links
-value_at-held : (f : ℕ → ℕ × ℚ) (ls : List ℕ) (l : ℕ) → Contains ls l → ((k : ℕ) → Contains ls k → (f k).0 ≡ (f l).0 → k ≡ l) → value_at (map f ls) (f l).0 ≡ Some (f l).1
+pub value_at-held : (f : ℕ → ℕ × ℚ) (ls : List ℕ) (l : ℕ) → Contains ls l → ((k : ℕ) → Contains ls k → (f k).0 ≡ (f l).0 → k ≡ l) → value_at (map f ls) (f l).0 ≡ Some (f l).1
 value_at-held f [] l held one = absurd (nothing_contains l held)
 value_at-held f (k ∷ ks) l held one =
     ⊎_elim
@@ -25,7 +25,7 @@ value_at-held f (k ∷ ks) l held one =
     cond-false (eqb (f k).0 (f l).0) _ _ (ne_eqb (f k).0 (f l).0 ne) ∙ value_at-held f ks l later (λ x in_ks e. one x (tail_contains k ks x in_ks) e))
     (cases_eq (f k).0 (f l).0)
 
-value_at-lacks : (f : ℕ → ℕ × ℚ) (ls : List ℕ) (i : ℕ) → ((k : ℕ) → Contains ls k → (f k).0 ≢ i) → value_at (map f ls) i ≡ None
+pub value_at-lacks : (f : ℕ → ℕ × ℚ) (ls : List ℕ) (i : ℕ) → ((k : ℕ) → Contains ls k → (f k).0 ≢ i) → value_at (map f ls) i ≡ None
 value_at-lacks f [] i lacks = refl
 value_at-lacks f (k ∷ ks) i lacks =
     cond-false (eqb (f k).0 i) _ _ (ne_eqb (f k).0 i (lacks k (head_contains k ks))) ∙ value_at-lacks f ks i (λ x in_ks. lacks x (tail_contains k ks x in_ks))

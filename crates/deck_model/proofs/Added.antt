@@ -79,12 +79,22 @@ module _ (a : Inside) (sound : IsSound a) where
           unnamed = sound.unnamed;
           few_rows = sound.few_rows;
           few_columns = omega (arith, ap length added, length-push a.columns.entries (name, v));
-          counted = omega (arith, sound.counted, entry_count-count_of a.columns.entries, entry_count-count_of columns.entries, ap (sum_by count_in) values, sum_by_push count_in (values_of a.columns.entries) v, nothing);
+          counted = omega (
+            arith,
+            sound.counted,
+            entry_count-count_of a.columns.entries,
+            entry_count-count_of columns.entries,
+            ap (sum_by count_in) values,
+            sum_by_push count_in (values_of a.columns.entries) v,
+            nothing,
+          );
         }
 
 module _ (a : Inside) where
-  pub deck_of-row_added : (rows : Named RowData) (name : List ℕ) (v : RowData) → rows.entries ≡ a.rows.entries ++ (name, v) ∷ [] → deck_of (record a { rows = rows }) ≡ record (deck_of a) { rows = (deck_of a).rows ++ row_of (name, v) ∷ [] }
+  pub deck_of-row_added : (rows : Named RowData) (name : List ℕ) (v : RowData) → rows.entries ≡ a.rows.entries ++ (name, v) ∷ []
+      → deck_of (record a { rows = rows }) ≡ record (deck_of a) { rows = (deck_of a).rows ++ row_of (name, v) ∷ [] }
   deck_of-row_added rows name v added = ap (λ rs. record (deck_of a) { rows = rs }) (ap (map row_of) added ∙ map-push row_of a.rows.entries (name, v))
 
-  pub deck_of-column_added : (columns : Named ColumnData) (name : List ℕ) (v : ColumnData) → columns.entries ≡ a.columns.entries ++ (name, v) ∷ [] → deck_of (record a { columns = columns }) ≡ record (deck_of a) { columns = (deck_of a).columns ++ column_of (name, v) ∷ [] }
+  pub deck_of-column_added : (columns : Named ColumnData) (name : List ℕ) (v : ColumnData) → columns.entries ≡ a.columns.entries ++ (name, v) ∷ []
+      → deck_of (record a { columns = columns }) ≡ record (deck_of a) { columns = (deck_of a).columns ++ column_of (name, v) ∷ [] }
   deck_of-column_added columns name v added = ap (λ cs. record (deck_of a) { columns = cs }) (ap (map column_of) added ∙ map-push column_of a.columns.entries (name, v))

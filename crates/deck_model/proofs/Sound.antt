@@ -66,12 +66,21 @@ module _ (a : Inside) (sound : IsSound a) where
           unnamed = sound.unnamed;
           few_rows = sound.few_rows;
           few_columns = subst (λ k. k ≤ 2 ^ 31) (sym (index_map_len-with_value_at a.columns j w)) sound.few_columns;
-          counted = omega (arith, count, sound.counted, entry_count-count_of a.columns.entries, count_of-set_value_at a.columns.entries j v w at, entry_count-count_of (with_value_at a.columns j w).entries);
+          counted = omega (
+            arith,
+            count,
+            sound.counted,
+            entry_count-count_of a.columns.entries,
+            count_of-set_value_at a.columns.entries j v w at,
+            entry_count-count_of (with_value_at a.columns j w).entries,
+          );
         }
 
 module _ (a : Inside) where
-  pub deck_of-row_changed : (g : Row → Row) (i : ℕ) (v w : RowData) → slice_get (values_of a.rows.entries) i ≡ Some v → ((k : List ℕ) → row_of (k, w) ≡ g (row_of (k, v))) → deck_of (record a { rows = with_value_at a.rows i w }) ≡ change_row (deck_of a) i g
+  pub deck_of-row_changed : (g : Row → Row) (i : ℕ) (v w : RowData) → slice_get (values_of a.rows.entries) i ≡ Some v
+      → ((k : List ℕ) → row_of (k, w) ≡ g (row_of (k, v))) → deck_of (record a { rows = with_value_at a.rows i w }) ≡ change_row (deck_of a) i g
   deck_of-row_changed g i v w at same = ap (λ rs. record (deck_of a) { rows = rs }) (map-set_value_at row_of g a.rows.entries i v w no_row at same)
 
-  pub deck_of-column_changed : (g : Column → Column) (j : ℕ) (v w : ColumnData) (n : ℕ) → slice_get (values_of a.columns.entries) j ≡ Some v → ((k : List ℕ) → column_of (k, w) ≡ g (column_of (k, v))) → deck_of (record a { columns = with_value_at a.columns j w; nonzeros = n }) ≡ change_column (deck_of a) j g
+  pub deck_of-column_changed : (g : Column → Column) (j : ℕ) (v w : ColumnData) (n : ℕ) → slice_get (values_of a.columns.entries) j ≡ Some v
+      → ((k : List ℕ) → column_of (k, w) ≡ g (column_of (k, v))) → deck_of (record a { columns = with_value_at a.columns j w; nonzeros = n }) ≡ change_column (deck_of a) j g
   deck_of-column_changed g j v w n at same = ap (λ cs. record (deck_of a) { columns = cs }) (map-set_value_at column_of g a.columns.entries j v w no_column at same)

@@ -1,5 +1,5 @@
 //! The log of a run.
-ghost use Rattle.std.specs.Prelude.{◌≡◌, [], ◌∷◌, ◌++◌, length, slice_get, OnOk, OnErr};
+ghost use Rattle.std.specs.Prelude.{◌≡◌, [], ◌∷◌, ◌++◌, ◌-◌, length, take, option_to_list, slice_get, OnOk, OnErr};
 ghost use Rattle.lp_model.specs.Log.{is_move, moves};
 
 use lp_model::Entry;
@@ -53,6 +53,20 @@ impl Log {
             self.move_count += 1;
         }
         Ok(())
+    }
+
+    /// Takes the last entry off, where there is one.
+    pub fn pop(&mut self) -> Option<Entry>
+        ensures entry { self.old ≡ self.new ++ option_to_list result }
+        ensures rest { self.new ≡ take (length self.old - 1) self.old }
+    {
+        let entry = self.entries.pop();
+        if let Some(entry) = entry {
+            if is_move(entry) {
+                self.move_count -= 1;
+            }
+        }
+        entry
     }
 
     /// How many entries there are.

@@ -1,2 +1,4 @@
 mod Built
 mod NewNames
+mod Numbers
+mod Pages

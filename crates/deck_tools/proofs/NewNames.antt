@@ -1,6 +1,6 @@
 -- The names of a transport deck differ.
-use Rattle.std.proofs.Common.{◌≡◌, ◌≢◌, ℕ, zero, suc, ◌+◌, ◌*◌, ◌/◌, ◌%◌, ◌^◌, ◌<◌, ◌≤◌, List, [], ◌∷◌, ◌++◌, length, map, get_or, Option, Some}
-use Rattle.std.proofs.Common.{None, is_some, Bool, true, false, cond, refl, sym, subst, ap, ap₂, ◌∙◌, arith, append_assoc, length-append, nat_eq}
+use Rattle.std.proofs.Common.{◌≡◌, ◌≢◌, ℕ, zero, suc, ◌+◌, ◌*◌, ◌/◌, ◌%◌, ◌<◌, ◌≤◌, List, [], ◌∷◌, ◌++◌, length, map, Some}
+use Rattle.std.proofs.Common.{None, is_some, Bool, false, cond, refl, sym, subst, ap, ap₂, ◌∙◌, arith, append_assoc, length-append, nat_eq}
 use Rattle.std.proofs.Common.{nat_lt}
 use Rattle.std.specs.Prelude.{◌&&◌, ◌||◌, position, codes}
 use Rattle.std.specs.Fmt.{decimal}
@@ -20,7 +20,7 @@ use Rattle.rational.specs.Rational.{ℚ, one_ℚ}
 use Rattle.rational.specs.Sparse.{upto}
 use Rattle.lp_model.specs.declared.RowKind.TheVariants.{L, G}
 use Rattle.lp_model.specs.Deck.{Column, Deck, Row, no_column, no_row, nonnegative}
-use Rattle.lp_model.specs.Edit.{find_column, find_row, is_column_name, is_row_name, new_deck, same_bytes}
+use Rattle.lp_model.specs.Edit.{is_column_name, is_row_name, new_deck, same_bytes}
 use Rattle.deck_tools.proofs.Built.{plus}
 use Rattle.deck_tools.specs.Transport.{cost_of, number, route, sink, source, transport}
 

@@ -1,5 +1,6 @@
 -- The layout of a deck: the one text in which a deck is written, in fixed or in free form.
-use Rattle.std.specs.Prelude.{◌≡◌, ℕ, ◌-◌, List, [], ◌∷◌, ◌++◌, map, length, replicate, Option, Some, None, option_map, Result, Ok, Err, codes, if◌then◌else◌}
+use Rattle.std.specs.Prelude.{ℕ, ◌-◌, List, [], ◌∷◌, ◌++◌, map, length, replicate, Option, Some, None, option_map}
+use Rattle.std.specs.Prelude.{Result, Ok, Err, codes, ◌&&◌, nat_lt, if◌then◌else◌}
 use Rattle.std.specs.List.{flat_map}
 use Rattle.rational.specs.Rational.{ℚ, eq_ℚ, neg_ℚ, zero_ℚ}
 use Rattle.lp_model.specs.declared.RowKind.{RowKind}
@@ -8,8 +9,8 @@ use Rattle.lp_model.specs.declared.Sense.{Sense}
 use Rattle.lp_model.specs.declared.Sense.TheVariants.{Min, Max}
 use Rattle.lp_model.specs.Deck.{Column, Deck, Row, row}
 use Rattle.frac_text.specs.Card.{card_text}
-use Rattle.deck_tools.specs.declared.form.Form.{Form}
-use Rattle.deck_tools.specs.declared.form.Form.TheVariants.{Fixed, Free}
+use Rattle.lp_text.specs.declared.Form.{Form}
+use Rattle.lp_text.specs.declared.Form.TheVariants.{Fixed, Free}
 
 -- a card of data: a kind, two names, a number where it has one, and the name that the number belongs to
 pub record Card : Type 0 where
@@ -100,19 +101,15 @@ set_line name v = card (record { kind = []; first = codes "S"; second = name; nu
 abbrev pub bound_line : List ℕ → List ℕ → Option ℚ → Line
 bound_line kind name v = card (record { kind = kind; first = codes "S"; second = name; number = v; owner = name })
 
+-- the cost of a column, where it is not 0, or where no entry would name the column
 abbrev pub cost_lines : Deck → Column → List Line
-cost_lines d c = if eq_ℚ c.cost zero_ℚ then [] else pair_line c.name d.objective c.cost ∷ []
+cost_lines d c = if eq_ℚ c.cost zero_ℚ && nat_lt 0 (length c.entries) then [] else pair_line c.name d.objective c.cost ∷ []
 
 abbrev pub entry_lines : Deck → Column → List Line
 entry_lines d c = map (λ e. pair_line c.name (row d e.0).name e.1) c.entries
 
--- a column without cost and entries has the cost 0 on a card
-abbrev pub or_zero_cost : Deck → Column → List Line → List Line
-or_zero_cost d c [] = pair_line c.name d.objective zero_ℚ ∷ []
-or_zero_cost d c (line ∷ lines) = line ∷ lines
-
 abbrev pub column_lines : Deck → Column → List Line
-column_lines d c = or_zero_cost d c (cost_lines d c ++ entry_lines d c)
+column_lines d c = cost_lines d c ++ entry_lines d c
 
 -- the constant stands as a right side of the objective, with its sign turned
 abbrev pub constant_lines : Deck → List Line

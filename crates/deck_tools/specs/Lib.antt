@@ -1,2 +1,4 @@
 pub mod Layout
+pub mod Makes
 pub mod Transport
+pub mod Writes

@@ -1,5 +1,5 @@
 -- The transport deck of a size: sources and sinks, and what it costs to send from each source to each sink.
-use Rattle.std.specs.Prelude.{ℕ, ◌+◌, ◌*◌, ◌/◌, ◌%◌, List, [], ◌∷◌, ◌++◌, map, None, codes, pos}
+use Rattle.std.specs.Prelude.{ℕ, ◌+◌, ◌*◌, ◌/◌, ◌%◌, [], ◌∷◌, ◌++◌, map, None, codes, pos}
 use Rattle.std.specs.Fmt.{decimal}
 use Rattle.rational.specs.Rational.{ℚ, one_ℚ, ratio, zero_ℚ}
 use Rattle.rational.specs.Sparse.{upto}

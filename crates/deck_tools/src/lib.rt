@@ -1,4 +1,4 @@
-//! Tools for decks: transport decks made from their size, and the layout in which a deck is written.
+//! Tools for decks: transport decks made from their size, and the writer of decks.
 //!
 //! # Model
 //!
@@ -10,15 +10,26 @@
 //!
 //! [`make`] answers `transport` of its size. It refuses only for want of memory.
 //!
-//! The crate stands on `deck_model` for decks, on `exact_frac` for fractions, on `frac_text` for the spelling of numbers on cards, on `lp_model` and
-//! `rational` for the definitions, on `itoa` and on `no_memory`.
+//! [`write_deck`] gives a sink `deck_text` of a deck. It answers `Wide` exactly where there is no such text, and then, or for want of memory, the sink
+//! has gained nothing; after a failed write it has gained a beginning of the text.
+//!
+//! # Method
+//!
+//! The text is made in memory, line by line (`page`, `write`), so that each spelling is known before the first byte is handed on.
+//!
+//! The crate stands on `deck_model` for decks, on `exact_frac` for fractions, on `sparse_cols` for the entries of a column, on `frac_text` for the
+//! spelling of numbers on cards, on `io_ends` for sinks, on `lp_model`, `lp_text` and `rational` for the definitions, on `itoa`, `thiserror` and
+//! `no_memory`.
 #![tactic(auto)]
 
-mod form;
+mod fault;
 mod making;
+mod page;
+mod write;
 
-pub use form::Form;
+pub use fault::DeckWriteFault;
 pub use making::make;
+pub use write::write_deck;
 
 #[cfg(test)]
 mod tests;

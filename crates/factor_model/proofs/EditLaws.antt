@@ -1,6 +1,6 @@
 -- A form stays a triangular form where a row is cleared, and where a column is replaced.
 use Rattle.std.proofs.Common.{◌≡◌, ◌≢◌, ℕ, ◌+◌, ◌<◌, ◌≤◌, true, false, not, eqb, List, [], ◌∷◌, ◌++◌, length, map, inl, inr, ⊎_elim, refl, sym, ◌∙◌, ap, subst, arith}
-use Rattle.std.specs.List.{filter, range_with_len}
+use Rattle.std.specs.List.{range_with_len}
 use Rattle.std.specs.List.Sorted.{IsPermutation}
 use Rattle.std.proofs.lemmas.Bool.{cases_eq, cases_lt, eq-eqb, ne_eqb, cond-true, cond-false}
 use Rattle.std.proofs.lemmas.List.{length-set, get_or-set_same, get_or-set_other, get_or_past}
@@ -12,6 +12,7 @@ use Rattle.sparse_cols.proofs.Pairs.{IsRising-remove_row}
 use Rattle.factor_model.specs.Vectors.{entry}
 use Rattle.factor_model.specs.Upper.{Triangle, IsUpper, ComesBefore, In, Pairwise, column, row_of, cell, diagonal}
 use Rattle.factor_model.specs.Edits.{column_at, cleared_column, clear_row, StandsAlone, moved_to_end, replace_column}
+use Rattle.factor_model.specs.Factoring.{others}
 use Rattle.factor_model.proofs.LineLaws.{entry-here, entry-there, entry-below}
 use Rattle.factor_model.proofs.Orders.{Pairwise-append}
 use Rattle.factor_model.proofs.UpperShape.{order_below, in_order}
@@ -58,52 +59,58 @@ kept-out x p e = ap not (eq-eqb x p e)
 kept-in : (x p : ℕ) → x ≢ p → not (eqb x p) ≡ true
 kept-in x p ne = ap not (ne_eqb x p ne)
 
--- the list without p
-abbrev pub without : ℕ → List ℕ → List ℕ
-without p xs = filter (λ q. not (eqb q p)) xs
+others-same : (p x : ℕ) (xs : List ℕ) → x ≡ p → others p (x ∷ xs) ≡ others p xs
+others-same p x xs e = cond-false (not (eqb x p)) _ _ (kept-out x p e)
 
-without-same : (p x : ℕ) (xs : List ℕ) → x ≡ p → without p (x ∷ xs) ≡ without p xs
-without-same p x xs e = cond-false (not (eqb x p)) _ _ (kept-out x p e)
+others-other : (p x : ℕ) (xs : List ℕ) → x ≢ p → others p (x ∷ xs) ≡ x ∷ others p xs
+others-other p x xs ne = cond-true (not (eqb x p)) _ _ (kept-in x p ne)
 
-without-other : (p x : ℕ) (xs : List ℕ) → x ≢ p → without p (x ∷ xs) ≡ x ∷ without p xs
-without-other p x xs ne = cond-true (not (eqb x p)) _ _ (kept-in x p ne)
-
-in_without : (p y : ℕ) (xs : List ℕ) → In y (without p xs) → In y xs × (y ≢ p)
-in_without p y [] held = absurd held
-in_without p y (x ∷ xs) held =
+pub in_others : (p y : ℕ) (xs : List ℕ) → In y (others p xs) → In y xs × (y ≢ p)
+in_others p y [] held = absurd held
+in_others p y (x ∷ xs) held =
     ⊎_elim
-    (λ (e : x ≡ p). let there = in_without p y xs (subst (In y) (without-same p x xs e) held) in (inr there.0, there.1))
+    (λ (e : x ≡ p). let there = in_others p y xs (subst (In y) (others-same p x xs e) held) in (inr there.0, there.1))
     (λ (ne : x ≢ p).
     ⊎_elim
     (λ (here : y ≡ x). (inl here, λ e. ne (sym here ∙ e)))
-    (λ (later : In y (without p xs)). let there = in_without p y xs later in (inr there.0, there.1))
-    (subst (In y) (without-other p x xs ne) held))
+    (λ (later : In y (others p xs)). let there = in_others p y xs later in (inr there.0, there.1))
+    (subst (In y) (others-other p x xs ne) held))
     (cases_eq x p)
 
-pub Pairwise-without : (R : ℕ → ℕ → Type 0) (p : ℕ) (xs : List ℕ) → Pairwise R xs → Pairwise R (without p xs)
-Pairwise-without R p [] h = tt
-Pairwise-without R p (x ∷ xs) h =
+pub others_in : (p y : ℕ) (xs : List ℕ) → In y xs → y ≢ p → In y (others p xs)
+others_in p y [] held ne = absurd held
+others_in p y (x ∷ xs) held ne =
     ⊎_elim
-    (λ (e : x ≡ p). subst (Pairwise R) (sym (without-same p x xs e)) (Pairwise-without R p xs h.1))
-    (λ (ne : x ≢ p). subst (Pairwise R) (sym (without-other p x xs ne)) (λ y held. h.0 y (in_without p y xs held).0, Pairwise-without R p xs h.1))
+    (λ (e : x ≡ p).
+    subst (In y) (sym (others-same p x xs e)) (⊎_elim (λ (here : y ≡ x). absurd (ne (here ∙ e))) (λ (later : In y xs). others_in p y xs later ne) held))
+    (λ (other : x ≢ p).
+    subst (In y) (sym (others-other p x xs other)) (⊎_elim (λ (here : y ≡ x). inl here) (λ (later : In y xs). inr (others_in p y xs later ne)) held))
     (cases_eq x p)
 
-without-none : (p : ℕ) (xs : List ℕ) → ((y : ℕ) → In y xs → y ≢ p) → without p xs ≡ xs
-without-none p [] none = refl
-without-none p (x ∷ xs) none = without-other p x xs (none x (inl refl)) ∙ ap (λ ys. x ∷ ys) (without-none p xs (λ y held. none y (inr held)))
+pub Pairwise-others : (R : ℕ → ℕ → Type 0) (p : ℕ) (xs : List ℕ) → Pairwise R xs → Pairwise R (others p xs)
+Pairwise-others R p [] h = tt
+Pairwise-others R p (x ∷ xs) h =
+    ⊎_elim
+    (λ (e : x ≡ p). subst (Pairwise R) (sym (others-same p x xs e)) (Pairwise-others R p xs h.1))
+    (λ (ne : x ≢ p). subst (Pairwise R) (sym (others-other p x xs ne)) (λ y held. h.0 y (in_others p y xs held).0, Pairwise-others R p xs h.1))
+    (cases_eq x p)
 
-moved-permutes : (p : ℕ) (xs : List ℕ) → In p xs → Pairwise (λ x y. x ≢ y) xs → IsPermutation xs (without p xs ++ p ∷ [])
+others-none : (p : ℕ) (xs : List ℕ) → ((y : ℕ) → In y xs → y ≢ p) → others p xs ≡ xs
+others-none p [] none = refl
+others-none p (x ∷ xs) none = others-other p x xs (none x (inl refl)) ∙ ap (λ ys. x ∷ ys) (others-none p xs (λ y held. none y (inr held)))
+
+pub moved-permutes : (p : ℕ) (xs : List ℕ) → In p xs → Pairwise (λ x y. x ≢ y) xs → IsPermutation xs (others p xs ++ p ∷ [])
 moved-permutes p [] held apart = absurd held
 moved-permutes p (x ∷ xs) held apart =
     ⊎_elim
     (λ (e : x ≡ p).
-    let left : without p (x ∷ xs) ≡ xs = without-same p x xs e ∙ without-none p xs (λ y later h. apart.0 y later (e ∙ sym h)) in
+    let left : others p (x ∷ xs) ≡ xs = others-same p x xs e ∙ others-none p xs (λ y later h. apart.0 y later (e ∙ sym h)) in
     subst (λ ys. IsPermutation (x ∷ xs) (ys ++ p ∷ [])) (sym left)
     (subst (λ y. IsPermutation (y ∷ xs) (xs ++ p ∷ [])) (sym e) (IsPermutation-sym (xs ++ p ∷ []) (p ∷ xs) (IsPermutation-to_front xs p))))
     (λ (ne : x ≢ p).
     let later : In p xs = ⊎_elim (λ (e : p ≡ x). absurd (ne (sym e))) (λ (h : In p xs). h) held in
-    subst (λ ys. IsPermutation (x ∷ xs) (ys ++ p ∷ [])) (sym (without-other p x xs ne))
-    (IsPermutation-cons x xs (without p xs ++ p ∷ []) (moved-permutes p xs later apart.1)))
+    subst (λ ys. IsPermutation (x ∷ xs) (ys ++ p ∷ [])) (sym (others-other p x xs ne))
+    (IsPermutation-cons x xs (others p xs ++ p ∷ []) (moved-permutes p xs later apart.1)))
     (cases_eq x p)
 
 -- ---- a row is cleared
@@ -220,17 +227,17 @@ module _ (n : ℕ) (u : Triangle) (upper : IsUpper n u) (p : ℕ) (lt : p < n) (
       paired = IsPermutation-trans (range_with_len 0 n) (map (row_of u) u.order) (map (row_of u) (moved_to_end u.order p)) upper.paired
           (IsPermutation-map (row_of u) u.order (moved_to_end u.order p) order_moves);
       triangular =
-          Pairwise-append (ComesBefore (replace_column u p c)) (without p u.order) (p ∷ [])
-          (Pairwise-map (ComesBefore u) (ComesBefore (replace_column u p c)) (without p u.order)
+          Pairwise-append (ComesBefore (replace_column u p c)) (others p u.order) (p ∷ [])
+          (Pairwise-map (ComesBefore u) (ComesBefore (replace_column u p c)) (others p u.order)
           (λ q s held held' before. record {
             apart = before.apart;
             other_rows = before.other_rows;
-            no_entry = cell-replaced_other (row_of u s) q (in_without p q u.order held).1 ∙ before.no_entry;
+            no_entry = cell-replaced_other (row_of u s) q (in_others p q u.order held).1 ∙ before.no_entry;
           })
-          (Pairwise-without (ComesBefore u) p u.order upper.triangular))
+          (Pairwise-others (ComesBefore u) p u.order upper.triangular))
           ((λ y held. absurd held), tt)
           (λ q s held one.
-          let there = in_without p q u.order held in
+          let there = in_others p q u.order held in
           let below = order_below n u upper q there.0 in
           ⊎_elim
           (λ (e : s ≡ p). subst (ComesBefore (replace_column u p c) q) (sym e) (record {

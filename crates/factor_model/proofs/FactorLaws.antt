@@ -6,13 +6,13 @@ use Rattle.std.proofs.lemmas.List.{length-set, get_or-set_same, get_or-set_other
 use Rattle.std.proofs.lemmas.List.Elements.{recursion_from_All}
 use Rattle.rational.specs.Rational.{ℚ, zero_ℚ, one_ℚ, ◌+ℚ◌, ◌-ℚ◌, ◌*ℚ◌}
 use Rattle.rational.specs.Sparse.{at_index}
-use Rattle.rational.specs.Matrix.{matrix_times, times_matrix}
+use Rattle.rational.specs.Matrix.{IsRegular, matrix_times, times_matrix}
 use Rattle.rational.proofs.RationalRing.{ring_ℚ}
 use Rattle.rational.proofs.Ring.{◌≐◌, ◌⊕◌, ◌⊖◌, ◌⊗◌, 𝟘}
 use Rattle.rational.specs.Sum.{at, sum_ℚ}
 use Rattle.rational.specs.Worked.{done, bind, settle}
 use Rattle.rational.proofs.Settling.{settle-answer}
-use Rattle.rational.proofs.SumLaws.{sum-cong, sum-exchange, sum-scale, sum-scale_right, sum-unit}
+use Rattle.rational.proofs.SumLaws.{sum-cong, sum-none, sum-exchange, sum-scale, sum-scale_right, sum-unit}
 use Rattle.rational.proofs.SparseLaws.{at_index-other}
 use Rattle.rational.proofs.VectorLaws.{get-map-upto, length-map-upto, same_vectors}
 use Rattle.sparse_cols.specs.Sparse.{Sparse, IsRising}
@@ -92,6 +92,19 @@ covers n (op ∷ ops) within e len =
     let rest = covers n ops within.1 last.0 last.1 in
     (rest.0, rest.1, back-first rest.0 op ops ∙ ap (λ v. (operate (transposed op) v).answer) rest.2 ∙ last.2)
 
+-- the product with a unit vector is an item
+pub unit-product : (n i : ℕ) (f : ℕ → ℚ) → i < n → sum_ℚ n (λ j. at (unit_vector n i) j *ℚ f j) ≡ f i
+unit-product n i f lt =
+    sum-cong n (λ j. at (unit_vector n i) j *ℚ f j) (λ j. at_index i j one_ℚ *ℚ f j)
+    (λ j below. ap (λ a. a *ℚ f j) (get-map-upto (λ k. at_index k i one_ℚ) zero_ℚ n j below ∙ turned j))
+    ∙ sum-unit n i f lt
+  where
+    turned : (j : ℕ) → at_index j i one_ℚ ≡ at_index i j one_ℚ
+    turned j =
+        ⊎_elim (λ (e : j ≡ i). subst (λ k. at_index k i one_ℚ ≡ at_index i k one_ℚ) (sym e) refl)
+        (λ (ne : j ≢ i). at_index-other j i one_ℚ ne ∙ sym (at_index-other i j one_ℚ (λ e. ne (sym e))))
+        (cases_eq j i)
+
 -- ---- solving
 
 module _ (n : ℕ) (ops : List Op) (u : Triangle) (b : ℕ → ℕ → ℚ) (factors : Represents n ops u b) where
@@ -120,7 +133,7 @@ module _ (n : ℕ) (ops : List Op) (u : Triangle) (b : ℕ → ℕ → ℚ) (fac
       let e_len = length-map-upto (λ j. at_index j i one_ℚ) n in
       let there = covers n ops within e e_len in
       let z = there.0 in
-      sym (at_unit (λ j. sum_ℚ n (λ p. b j p *ℚ at x p)))
+      sym (unit-product n i (λ j. sum_ℚ n (λ p. b j p *ℚ at x p)) lt)
       ∙ sum-cong n (λ j. at e j *ℚ sum_ℚ n (λ p. b j p *ℚ at x p)) (λ j. sum_ℚ n (λ p. at e j *ℚ b j p *ℚ at x p)) (λ j below. spread (at e j) (b j))
       ∙ sum-exchange n n (λ j p. at e j *ℚ b j p *ℚ at x p)
       ∙ sum-cong n (λ p. sum_ℚ n (λ j. at e j *ℚ b j p *ℚ at x p)) (λ p. sum_ℚ n (λ j. at z j *ℚ cell u j p *ℚ at x p))
@@ -133,24 +146,49 @@ module _ (n : ℕ) (ops : List Op) (u : Triangle) (b : ℕ → ℕ → ℚ) (fac
       (λ j below. sym (spread (at z j) (cell u j)) ∙ ap (λ s. at z j *ℚ s) (solves j below))
       ∙ sym (transposes n ops within z a there.1 len)
       ∙ ap (λ w. inner n w a) there.2
-      ∙ at_unit (at a)
+      ∙ unit-product n i (at a) lt
     where
       spread : (c : ℚ) (f : ℕ → ℚ) → c *ℚ sum_ℚ n (λ p. f p *ℚ at x p) ≡ sum_ℚ n (λ p. c *ℚ f p *ℚ at x p)
       spread c f =
           sym (sum-scale n c (λ p. f p *ℚ at x p))
           ∙ sum-cong n (λ p. c *ℚ (f p *ℚ at x p)) (λ p. c *ℚ f p *ℚ at x p) (λ p below. ring_ℚ 3 (λ a b c. a ⊗ (b ⊗ c) ≐ a ⊗ b ⊗ c) tt c (f p) (at x p))
 
-      turned : (j : ℕ) → at_index j i one_ℚ ≡ at_index i j one_ℚ
-      turned j =
-          ⊎_elim (λ (e : j ≡ i). subst (λ k. at_index k i one_ℚ ≡ at_index i k one_ℚ) (sym e) refl)
-          (λ (ne : j ≢ i). at_index-other j i one_ℚ ne ∙ sym (at_index-other i j one_ℚ (λ e. ne (sym e))))
-          (cases_eq j i)
+-- a row of numbers times the matrix times a column of them, taken either way
+either_way : (n : ℕ) (b : ℕ → ℕ → ℚ) (y x : ℕ → ℚ) → sum_ℚ n (λ p. times_matrix n y b p *ℚ x p) ≡ sum_ℚ n (λ i. y i *ℚ matrix_times n b x i)
+either_way n b y x =
+    sum-cong n (λ p. times_matrix n y b p *ℚ x p) (λ p. sum_ℚ n (λ i. y i *ℚ b i p *ℚ x p)) (λ p below. sym (sum-scale_right n (λ i. y i *ℚ b i p) (x p)))
+    ∙ sum-exchange n n (λ p i. y i *ℚ b i p *ℚ x p)
+    ∙ sum-cong n (λ i. sum_ℚ n (λ p. y i *ℚ b i p *ℚ x p)) (λ i. y i *ℚ matrix_times n b x i)
+    (λ i below.
+    sum-cong n (λ p. y i *ℚ b i p *ℚ x p) (λ p. y i *ℚ (b i p *ℚ x p)) (λ p lt. ring_ℚ 3 (λ a b c. a ⊗ b ⊗ c ≐ a ⊗ (b ⊗ c)) tt (y i) (b i p) (x p))
+    ∙ sum-scale n (y i) (λ p. b i p *ℚ x p))
 
-      at_unit : (f : ℕ → ℚ) → sum_ℚ n (λ j. at (unit_vector n i) j *ℚ f j) ≡ f i
-      at_unit f =
-          sum-cong n (λ j. at (unit_vector n i) j *ℚ f j) (λ j. at_index i j one_ℚ *ℚ f j)
-          (λ j below. ap (λ a. a *ℚ f j) (get-map-upto (λ k. at_index k i one_ℚ) zero_ℚ n j below ∙ turned j))
-          ∙ sum-unit n i f lt
+-- a matrix that has factors is regular
+pub factors-regular : (n : ℕ) (ops : List Op) (u : Triangle) (b : ℕ → ℕ → ℚ) → Represents n ops u b → IsRegular n b
+factors-regular n ops u b factors = record {
+  columns = λ v none j lt.
+      let c = unit_vector n j in
+      let z = (solve_back u c).answer in
+      let y = (apply_back z ops).answer in
+      sym (unit-product n j v lt)
+      ∙ sum-cong n (λ p. at c p *ℚ v p) (λ p. times_matrix n (at y) b p *ℚ v p)
+      (λ p below.
+      ap (λ a. a *ℚ v p) (sym (backward-solves n ops u b factors z c (length-solve_back n u factors.upper c) (solves_position n u factors.upper c) p below)))
+      ∙ either_way n b (at y) v
+      ∙ sum-none n (λ i. at y i *ℚ matrix_times n b v i) (λ i below. ap (λ a. at y i *ℚ a) (none i below) ∙ ring_ℚ 1 (λ a. a ⊗ 𝟘 ≐ 𝟘) tt (at y i));
+  rows = λ y none i lt.
+      let a = unit_vector n i in
+      let a_len = length-map-upto (λ j. at_index j i one_ℚ) n in
+      let spike = (apply a ops).answer in
+      let x = (solve u spike).answer in
+      sym (unit-product n i y lt)
+      ∙ sum-cong n (λ k. at a k *ℚ y k) (λ k. y k *ℚ matrix_times n b (at x) k)
+      (λ k below.
+      ap (λ c. c *ℚ y k) (sym (forward-solves n ops u b factors a x a_len (solves_row n u factors.upper spike (length-apply a ops ∙ a_len)) k below))
+      ∙ ring_ℚ 2 (λ a b. a ⊗ b ≐ b ⊗ a) tt (matrix_times n b (at x) k) (y k))
+      ∙ sym (either_way n b y (at x))
+      ∙ sum-none n (λ p. times_matrix n y b p *ℚ at x p) (λ p below. ap (λ c. c *ℚ at x p) (none p below) ∙ ring_ℚ 1 (λ a. 𝟘 ⊗ a ≐ 𝟘) tt (at x p));
+}
 
 -- ---- what ftran and btran answer
 

@@ -8,4 +8,10 @@ pub mod SparseLaws
 pub mod MultiplierLaws
 pub mod UpdateLaws
 pub mod FactorLaws
+pub mod PivotLaws
+pub mod FactorReaches
+pub mod FactorStands
+pub mod FactoredLaws
+pub mod FactoredSame
+pub mod UpdatedLaws
 mod WorkedCases

@@ -26,7 +26,7 @@ module _ (n : ℕ) (u : Triangle) (upper : IsUpper n u) where
   position_of_row r lt = in_map (row_of u) r u.order (in_whole n (map (row_of u) u.order) upper.paired r lt)
 
 -- positions that come before one another are different
-distinct_of : (R : ℕ → ℕ → Type 0) → ((p q : ℕ) → R p q → p ≢ q) → (xs : List ℕ) → Pairwise R xs → IsDistinct eqb xs
+pub distinct_of : (R : ℕ → ℕ → Type 0) → ((p q : ℕ) → R p q → p ≢ q) → (xs : List ℕ) → Pairwise R xs → IsDistinct eqb xs
 unfolding IsDistinct
 distinct_of R apart [] p = tt
 distinct_of R apart (x ∷ xs) p = IsDistinct-cons eqb x xs (all xs (λ y held. apart x y (p.0 y held))) (distinct_of R apart xs p.1)

@@ -5,7 +5,7 @@ use Rattle.rational.specs.Sum.{at}
 use Rattle.rational.specs.Worked.{done, work, bind, settle, less, less_unless, quotient, is_skipped}
 use Rattle.rational.specs.Width.{fits_width}
 use Rattle.sparse_cols.specs.Sparse.{Sparse}
-use Rattle.factor_model.specs.declared.Op.TheVariants.{Row}
+use Rattle.factor_model.specs.declared.Op.TheVariants.{Column, Row}
 use Rattle.factor_model.specs.Upper.{place_one, solve_one, back_item}
 use Rattle.factor_model.specs.Update.{multiplier}
 use Rattle.factor_model.specs.Factors.{Factors, ftran, btran, updated}
@@ -92,3 +92,18 @@ three i p = at (at_row i) p
 first_pivot : least (start 3 three) ≡ Some (0, 0)
 unfolding three n eq_ℚ zero_ℚ
 first_pivot = refl
+
+-- its first operation takes row 0 from both others, and the form is the unit matrix
+sparse_of : List (ℕ × ℚ) → Sparse ℚ
+sparse_of pairs = record { length = 3; pairs = pairs }
+
+factors_of_three : (factored 3 three).answer
+    ≡ factoring.whole
+    (Column 0 (sparse_of ((1, n (pos 1)) ∷ (2, n (pos 1)) ∷ [])) ∷ Column 1 (sparse_of []) ∷ Column 2 (sparse_of []) ∷ [])
+    (record {
+      columns = sparse_of ((0, n (pos 1)) ∷ []) ∷ sparse_of ((1, n (pos 1)) ∷ []) ∷ sparse_of ((2, n (pos 1)) ∷ []) ∷ [];
+      rows = 0 ∷ 1 ∷ 2 ∷ [];
+      order = 0 ∷ 1 ∷ 2 ∷ [];
+    })
+unfolding three n sparse_of bind done quotient less less_unless work is_skipped eliminated_by pivoted eq_ℚ zero_ℚ one_ℚ
+factors_of_three = refl

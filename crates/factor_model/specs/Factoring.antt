@@ -1,14 +1,17 @@
 -- Factors of a matrix, made by Gaussian elimination whose pivots are chosen by least Markowitz cost (Markowitz 1957).
-use Rattle.std.specs.Prelude.{ℕ, zero, suc, ◌*◌, ◌-◌, Bool, not, ◌&&◌, ◌==◌, nat_lt, List, [], ◌∷◌, ◌++◌, map, count_by, Option, Some, None, if◌then◌else◌}
+use Rattle.std.specs.Prelude.{◌≡◌, ◌≢◌, ℕ, zero, suc, ◌*◌, ◌-◌, ◌<◌, Bool, not, ◌&&◌, ◌==◌, nat_lt, List, [], ◌∷◌, ◌++◌, length, map, count_by, Option, Some, None, if◌then◌else◌}
 use Rattle.std.specs.List.{filter, flat_map}
 use Rattle.rational.specs.Rational.{ℚ, zero_ℚ, eq_ℚ}
+use Rattle.rational.specs.Matrix.{times_matrix}
 use Rattle.rational.specs.Sparse.{upto}
+use Rattle.rational.specs.Sum.{at}
 use Rattle.rational.specs.Worked.{Worked, done, bind, less, quotient}
 use Rattle.factor_model.specs.declared.Op.{Op}
 use Rattle.factor_model.specs.declared.Op.TheVariants.{Column}
 use Rattle.factor_model.specs.Vectors.{matrix_column, unit_vector, sparse}
 use Rattle.factor_model.specs.Eta.{apply_back}
 use Rattle.factor_model.specs.Upper.{Triangle}
+use Rattle.factor_model.specs.Factors.{Factors}
 
 -- an elimination on the way: the matrix as it is now, the rows and positions that have no pivot yet, each rising, the operations so far, and
 -- the pivots so far in order, each a row and a position. An entry is active where neither its row nor its position has a pivot and it is not 0
@@ -84,18 +87,21 @@ eliminate r c positions a ks (i ∷ rows) =
 abbrev pub others : ℕ → List ℕ → List ℕ
 others x xs = filter (λ y. not (y == x)) xs
 
--- the elimination after one pivot, of a matrix of n rows: one operation more, an empty one too
+-- the elimination with one pivot more, of a matrix of n rows, where this is left: one operation more, an empty one too
+abbrev pub with_pivot : ℕ → Elimination → ℕ × ℕ → Eliminated → Elimination
+with_pivot n e pivot left = record {
+  matrix = left.0;
+  rows = others pivot.0 e.rows;
+  positions = others pivot.1 e.positions;
+  ops = e.ops ++ Column pivot.0 (record { length = n; pairs = left.1 }) ∷ [];
+  pivots = e.pivots ++ pivot ∷ [];
+}
+
+-- the elimination after one pivot
 unfoldable pub pivoted : ℕ → Elimination → ℕ × ℕ → Worked Elimination
 unfolding bind done less quotient eliminated_by zero_ℚ eq_ℚ
 pivoted n e pivot =
-    bind (eliminate pivot.0 pivot.1 (others pivot.1 e.positions) e.matrix [] (others pivot.0 e.rows))
-    (λ left. done (record {
-      matrix = left.0;
-      rows = others pivot.0 e.rows;
-      positions = others pivot.1 e.positions;
-      ops = e.ops ++ Column pivot.0 (record { length = n; pairs = left.1 }) ∷ [];
-      pivots = e.pivots ++ pivot ∷ [];
-    }))
+    bind (eliminate pivot.0 pivot.1 (others pivot.1 e.positions) e.matrix [] (others pivot.0 e.rows)) (λ left. done (with_pivot n e pivot left))
 
 -- the elimination after so many pivots, or after as many as there are
 abbrev pub eliminated : ℕ → ℕ → Elimination → Worked Elimination
@@ -108,6 +114,12 @@ eliminated n (suc left) e = elim (least e) [ None ↦ done e | Some pivot ↦ bi
 pub data Factored : Type 0 where
   whole : List Op → Triangle → Factored
   singular : List ℚ → Factored
+
+-- y is a combination of the n rows of the matrix b that is 0 in each of its n positions, and y is not 0
+pub record IsDependence (n : ℕ) (b : ℕ → ℕ → ℚ) (y : List ℚ) : Type 0 where
+  pub rows : length y ≡ n
+  pub nonzero : (i : ℕ) × (i < n) × (at y i ≢ zero_ℚ)
+  pub vanishes : (p : ℕ) → p < n → times_matrix n (at y) b p ≡ zero_ℚ
 
 -- the row whose pivot has this position
 abbrev pub row_paired : List (ℕ × ℕ) → ℕ → ℕ
@@ -134,3 +146,12 @@ start n b = record { matrix = b; rows = upto n; positions = upto n; ops = []; pi
 -- the factors of the matrix b of n rows and n columns
 abbrev pub factored : ℕ → (ℕ → ℕ → ℚ) → Worked Factored
 factored n b = bind (eliminated n n (start n b)) (λ e. factored_by n e e.rows)
+
+-- the factors of what was made, at a number of the log; there are none where it is singular
+abbrev pub fresh : ℕ → Factored → Option Factors
+fresh base (whole ops u) = Some (record { etas = ops; upper = u; updates = 0; base = base })
+fresh base (singular y) = None
+
+-- the factors of the matrix b of n rows and n columns, made at a number of the log
+abbrev pub made_factors : ℕ → (ℕ → ℕ → ℚ) → ℕ → Worked (Option Factors)
+made_factors n b base = bind (factored n b) (λ made. done (fresh base made))

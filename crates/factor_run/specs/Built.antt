@@ -1,6 +1,6 @@
 -- The factors along a run. They are made for the basis of the start, updated at each exchange, and made anew for the new basis where they
 -- have had the most updates. Where a basis is dependent there are none; along a run none is.
-use Rattle.std.specs.Prelude.{ℕ, ◌+◌, ◌==◌, List, [], ◌∷◌, Option, Some, None, if◌then◌else◌}
+use Rattle.std.specs.Prelude.{ℕ, ◌+◌, ◌≤◌, ◌==◌, List, [], ◌∷◌, Option, Some, None, if◌then◌else◌}
 use Rattle.lp_model.specs.declared.Entry.{Entry}
 use Rattle.lp_model.specs.declared.Entry.TheVariants.{Flip, Swap, Turn}
 use Rattle.rational.specs.Rational.{ℚ}
@@ -9,18 +9,13 @@ use Rattle.lp_run.specs.Instance.{Instance, coefficient, row_count}
 use Rattle.lp_run.specs.Solution.{basis_entry}
 use Rattle.lp_run.specs.State.{State, after, start_of}
 use Rattle.factor_model.specs.Eta.{apply}
-use Rattle.factor_model.specs.Factoring.{Factored, factored, whole, singular}
-use Rattle.factor_model.specs.Factors.{Factors, most_updates, updated}
+use Rattle.factor_model.specs.Factoring.{made_factors}
+use Rattle.factor_model.specs.Factors.{Factors, AreFactors, most_updates, updated}
 use Rattle.factor_model.specs.Vectors.{vector}
-
--- the factors of a factored matrix, made at a number of the log
-abbrev pub fresh : ℕ → Factored → Option Factors
-fresh base (whole ops u) = Some (record { etas = ops; upper = u; updates = 0; base = base })
-fresh base (singular y) = None
 
 -- the factors of a state's basis, made at a number of the log
 abbrev pub made_anew : Instance → State → ℕ → Worked (Option Factors)
-made_anew inst s base = bind (factored (row_count inst) (basis_entry inst s)) (λ made. done (fresh base made))
+made_anew inst s base = made_factors (row_count inst) (basis_entry inst s) base
 
 -- column q of the equations as a vector
 abbrev pub entering_column : Instance → ℕ → List ℚ
@@ -51,3 +46,8 @@ built_from inst s k (e ∷ log) f = bind (followed_if inst (after s e) (k + 1) e
 -- the factors after the entries of a log
 abbrev pub built : Instance → List Entry → Worked (Option Factors)
 built inst log = bind (made_anew inst (start_of inst) 0) (λ f. built_from inst (start_of inst) 0 log f)
+
+-- there are factors, they are factors of the state's basis, and have had no more updates than they may
+abbrev pub StandFor : Instance → State → Option Factors → Type 0
+StandFor inst s None = ⊥
+StandFor inst s (Some f) = AreFactors (row_count inst) f (basis_entry inst s) × (f.updates ≤ most_updates)

@@ -7,16 +7,15 @@ use Rattle.lp_model.specs.declared.Kind.TheVariants as kind
 use Rattle.lp_model.specs.declared.Status.TheVariants as status
 use Rattle.rational.specs.Rational.{ℚ}
 use Rattle.rational.specs.Sparse.{upto}
-use Rattle.rational.specs.Lines.{gather}
-use Rattle.rational.specs.Worked.{Worked, settle}
+use Rattle.rational.specs.Worked.{settle}
 use Rattle.lp_run.specs.Instance.{Instance, bounds, column_count, cost, row_count}
 use Rattle.lp_run.specs.Listing.{AllFit, Listed, MakingLists, StartFits, StepLists}
 use Rattle.lp_run.specs.Run.{IsRun}
 use Rattle.lp_run.specs.Solution.{Prices}
 use Rattle.lp_run.specs.State.{State, basic, status_of}
 use Rattle.lp_run.specs.Step.{Enters, is_fixed}
+use Rattle.bland_ratio.specs.Pricing.{priced}
 use Rattle.factor_model.specs.Factors.{Factors, btran, ftran}
-use Rattle.factor_model.specs.Vectors.{stored_from}
 use Rattle.factor_run.specs.Built.{built, entering_column}
 
 -- whether a solver by factors works values of this kind: it has no table and no row of reduced costs
@@ -36,15 +35,11 @@ without_table vs = filter (λ v. is_worked v.0.kind) vs
 abbrev pub basic_costs : Instance → State → List ℚ
 basic_costs inst s = map (λ p. cost inst s.phase (basic s p)) (upto (row_count inst))
 
--- the reduced cost of column j at the prices y, as it is worked: its cost less the product of each entry with the price of its row, by rising rows
-abbrev pub priced : Instance → State → List ℚ → ℕ → Worked ℚ
-priced inst s y j = gather (row_count inst) y (cost inst s.phase j) (stored_from 0 (entering_column inst j))
-
 -- what the factors f of a state work to choose the entering column and to solve for it fits the width
 pub record SolvesFit (w : ℕ) (inst : Instance) (s : State) (f : Factors) : Type 0 where
   pub prices : IsSome (settle w (btran f (basic_costs inst s)))
   pub reduced : (y : List ℚ) (j : ℕ) → Prices inst s y → j < column_count inst → status_of s j ≢ status.Basic → IsFalse (is_fixed (bounds inst s.phase j))
-      → IsSome (settle w (priced inst s y j))
+      → IsSome (settle w (priced inst s.phase y j))
   pub entering : (y : List ℚ) (q : ℕ) → Prices inst s y → Enters inst s y q → IsSome (settle w (ftran f (entering_column inst q)))
 
 -- along the whole run each value fits that a solver by factors works: the run's own but for the table, the making of the factors, and their solves

@@ -1,3 +1,4 @@
+pub mod Making
 pub mod Solves
 pub mod Updates
 pub mod Spreading

@@ -4,20 +4,22 @@
 //! number of entries of the log at which they were made (`Factors` of `factor_model`). Of a matrix B they are factors
 //! where the operations take each of its columns to the form's (`AreFactors`).
 //!
-//! **Contract.** `ftran` gives the x with B·x = a, and the spike of a, which an update asks for; `btran` gives the y with
+//! **Contract.** `make` factors a matrix, or answers that its columns are dependent, with a combination of its rows that
+//! is 0 (`IsDependence`). `ftran` gives the x with B·x = a, and the spike of a, which an update asks for; `btran` gives the y with
 //! y·B = c; `update` follows the exchange of one column of B. Each answers what its calculation settles to at the
 //! arithmetic's width (`ftran`, `btran` and `updated` in `Factors` of `factor_model`), `Unfit` exactly where one of its
 //! worked values does not fit. The clauses `solves` and `represents` say what the answers mean for each B of which
 //! these are factors. After `Unfit` the vectors hold anything; a refused `update` leaves the factors as they were. Of m
 //! rows, `ftran` and `btran` work at most m² + m products and quotients and one for each entry of the operations,
-//! of which there are at most m(m − 1)/2 and m − 1 for each update; `update` works at most m².
+//! of which there are at most m(m − 1)/2 and m − 1 for each update; `update` works at most m², and `make` m³.
 //!
-//! Only `update` takes memory. It stands on `row_eta`, `upper_form` and `ft_update`, and on `factor_model` for its
-//! definitions and laws.
+//! `make` and `update` take memory, the solves take none. It stands on `markowitz_lu`, `row_eta`, `upper_form` and
+//! `ft_update`, and on `factor_model` for its definitions and laws.
 
 #![tactic(auto)]
 
-ghost use Rattle.std.specs.Prelude.{◌≡◌, ℕ, ◌+◌, ◌*◌, ◌<◌, ◌≤◌, Some, OnOk, OnErr, IfErr, length, List};
+ghost use Rattle.std.specs.Prelude.{◌≡◌, ℕ, ◌+◌, ◌*◌, ◌^◌, ◌<◌, ◌≤◌, Some, IfOk, OnOk, OnErr, IfErr, length, List};
+ghost use Rattle.std.specs.List.{All};
 ghost use Rattle.rational.specs.Rational.{ℚ};
 ghost use Rattle.rational.specs.Sum.{at};
 ghost use Rattle.rational.specs.Worked.{settle};
@@ -25,16 +27,20 @@ ghost use Rattle.sparse_cols.specs.Sparse.{IsRising};
 ghost use Rattle.exact_frac.specs.Count.{unfit_after};
 ghost use Rattle.exact_frac.specs.Settles.{Leaves};
 ghost use Rattle.factor_model.specs.Eta.{apply, AreOps, stored};
+ghost use Rattle.factor_model.specs.Factoring.{factored, made_factors};
 ghost use Rattle.factor_model.specs.Factors as factors;
 ghost use Rattle.factor_model.specs.Factors.{AreFactors, IsRowSolution, IsSolution, most_updates};
 ghost use Rattle.factor_model.specs.Update.{HasPivot, with_column};
 ghost use Rattle.factor_model.specs.Upper.{Solves};
 ghost use Rattle.factor_model.specs.Vectors.{entry, vector};
 ghost use Rattle.ft_update.specs.Fault.{IsCause, count_after};
+ghost use Rattle.markowitz_lu.specs.Columns.{HasNoZero, matrix_of};
+ghost use Rattle.markowitz_lu.specs.Fault as lu;
 ghost use Rattle.ftran_btran.specs.Kept.{AreFew, AreKept, size};
 
 use exact_frac::{Arith, Frac, Unfit};
 use ft_update::UpdateFault;
+pub use markowitz_lu::LuFault;
 use row_eta::EtaFile;
 use sparse_cols::SparseCol;
 use std::alloc::Global;
@@ -62,6 +68,38 @@ impl Model for Factors {
 }
 
 impl Factors {
+    /// The factors of the matrix of `m` columns of `m` rows each, none of which stores a 0, made at a number of the log.
+    ///
+    /// # Errors
+    ///
+    /// `Singular` where the columns are dependent, with a combination of the rows that is 0. `Unfit` where a worked value
+    /// does not fit the width of the arithmetic, and `Memory` for want of memory.
+    pub fn make<A: Arith>(
+        alloc: Global,
+        m: usize,
+        columns: &[SparseCol<Frac>],
+        base: u64,
+        arith: &mut A,
+    ) -> Result<Factors, LuFault>
+        requires small { m < 2 ^ 16 }
+        requires columns { length columns.now ≡ m }
+        requires rows { All (λ column. column.length ≡ m) columns.now }
+        requires stored { All HasNoZero columns.now }
+        ensures settled { IfOk result (λ f. settle (A.width arith.old) (made_factors m (matrix_of columns.now) base) ≡ Some (Some f)) }
+        ensures represents { IfOk result (λ f. AreFactors m f (matrix_of columns.now)) }
+        ensures size { IfOk result (λ f. size f ≡ m) }
+        ensures fault { IfErr result (lu.IsCause (A.width arith.old) (factored m (matrix_of columns.now))) }
+        ensures dependent { IfErr result (lu.IsDependent m (matrix_of columns.now)) }
+        ensures width { A.width arith.new ≡ A.width arith.old }
+        ensures unfit { A.unfit_count arith.new ≡ lu.count_after (A.unfit_count arith.old) result }
+        ensures work { A.work_count arith.new ≤ A.work_count arith.old + m * m * m }
+    {
+        match markowitz_lu::factor(alloc, m, columns, arith) {
+            Ok((etas, upper)) => Ok(Factors::of(etas, upper, base)),
+            Err(fault) => Err(fault),
+        }
+    }
+
     /// The factors of these operations and this form, which have had no update, made at a number of the log.
     pub fn of(etas: EtaFile, upper: Upper, base: u64) -> Factors
         requires within { AreOps (length upper.rows) etas }

@@ -9,37 +9,26 @@ use Rattle.lp_model.specs.declared.Place.{Place}
 use Rattle.lp_model.specs.declared.RowKind.{RowKind}
 use Rattle.lp_model.specs.declared.RowKind.TheVariants.{L, G, E}
 use Rattle.lp_model.specs.Deck.{Deck, Interval, Row, column, logical_bounds, no_column, no_row, nonnegative, row}
-use Rattle.rational.specs.Rational.{ℚ, zero_ℚ, ◌+ℚ◌, ◌-ℚ◌, ◌*ℚ◌, neg_ℚ, abs_ℚ, cmp_ℚ, ◌<ℚ◌, eq_ℚ}
+use Rattle.rational.specs.Rational.{ℚ, zero_ℚ, ◌+ℚ◌, ◌-ℚ◌, ◌*ℚ◌, neg_ℚ, abs_ℚ, eq_ℚ}
 use Rattle.rational.specs.Sparse.{entry_at, upto}
 use Rattle.rational.specs.Sum.{sum_ℚ, at}
 use Rattle.rational.specs.Width.{FitsWidth}
 use Rattle.rational.specs.Worked.{less, placed, settle, Worked, done}
-use Rattle.rational.proofs.OrderLaws.{abs_ℚ-above, abs_ℚ-below, by_cmp, cmp_less, cmp_equal, cmp_greater, eq_ℚ-decides, eq_ℚ-tested}
+use Rattle.rational.proofs.OrderLaws.{abs_ℚ-below, by_cmp, eq_ℚ-decides, eq_ℚ-tested}
 use Rattle.rational.proofs.RationalRing.{ring_ℚ}
 use Rattle.rational.proofs.Ring.{◌≐◌, ◌⊕◌, ◌⊖◌, ⊝◌, 𝟘}
 use Rattle.rational.proofs.Settling.{less_answer, settle-answer, less-none}
 use Rattle.rational.proofs.SumLaws.{sum-suc, sum-zero_terms}
 use Rattle.rational.proofs.WidthLaws.{fits_width-decides, unfit_tested}
 use Rattle.lp_run.specs.Instance.{Instance, Structural, equations_of, logical, no_structural, range_sum, residual, start_value, structural, structural_count, structural_of}
-use Rattle.lp_run.specs.Listing.{AllFit, Listed, first_unfit, listed_at, place, start_sums}
+use Rattle.lp_run.specs.Listing.{AllFit, Listed, first_unfit, listed_at, place, start_sums, Judges}
 use Rattle.lp_run.proofs.FirstUnfit.{all-append, fit-append, fit-placed, one-fits, one-unfit, unfit-append, unfit-placed}
 use Rattle.sparse_cols.specs.Sparse.{value_at}
-use Rattle.instance_model.specs.Inner.Starts.{Judges, excess_listing, range_shift, row_place, row_start, side_past, takings, off_zero, starts_off}
+use Rattle.instance_model.specs.Inner.Starts.{excess_listing, range_shift, row_place, row_start, side_past, takings, off_zero, starts_off}
 use Rattle.std.proofs.lemmas.Result.{err_from_is_err_and}
 use Rattle.std.specs.List.{filter, range_with_len}
 use Rattle.std.proofs.lemmas.List.Elements.{All-filter, filter-append}
 use Rattle.std.proofs.lemmas.List.FromFn.{get_or-range_with_len, length-range_with_len}
-
--- ── numbers and ends ──
-
--- an entry that is looked up, or 0
-pub entry_from : (pairs : List (ℕ × ℚ)) (i : ℕ) → unwrap_or (value_at pairs i) zero_ℚ ≡ entry_at pairs i
-entry_from [] i = refl
-entry_from ((k, v) ∷ pairs) i = by_test (eqb k i) (entry_from pairs i)
-  where
-    by_test : (b : Bool) → unwrap_or (value_at pairs i) zero_ℚ ≡ entry_at pairs i → unwrap_or (cond b (Some v) (value_at pairs i)) zero_ℚ ≡ cond b v (entry_at pairs i)
-    by_test true h = refl
-    by_test false h = h
 
 -- ── one value ──
 

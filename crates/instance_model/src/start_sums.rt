@@ -4,18 +4,18 @@ ghost use Rattle.std.specs.Prelude.{◌≡◌, ◌<◌, ◌≤◌, ◌^◌, leng
 ghost use Rattle.deck_model.specs.End.{finite_end};
 ghost use Rattle.exact_frac.specs.Count.{unfit_after};
 ghost use Rattle.lp_model.specs.declared.Kind.TheVariants as kind;
-ghost use Rattle.lp_model.specs.Deck.{column as column_at, entry as entry_of, logical_bounds as logical_bounds_at, logical_bounds_of, row as row_at};
+ghost use Rattle.lp_model.specs.Deck.{column as column_at, logical_bounds as logical_bounds_at, logical_bounds_of, row as row_at};
 ghost use Rattle.lp_run.specs.Instance.{equations_of, range_sum as range_sum_of, residual as residual_of, structural_count};
-ghost use Rattle.lp_run.specs.Listing.{listed_at, place, start_sums};
+ghost use Rattle.lp_run.specs.Listing.{listed_at, place, start_sums, Judges};
 ghost use Rattle.rational.specs.Sparse.{upto};
 ghost use Rattle.rational.specs.Sum.{at};
-ghost use Rattle.instance_model.specs.Inner.Starts.{Judges, excess_listing, off_zero, range_shift as shift_of, row_place as place_of_row, row_start as row_start_of, side_past, takings};
+ghost use Rattle.instance_model.specs.Inner.Starts.{excess_listing, off_zero, range_shift as shift_of, row_place as place_of_row, row_start as row_start_of, side_past, takings};
 
 use crate::bounds::Bounds;
 use deck_model::{Deck, End, MAX_COLUMNS};
 use exact_frac::{Arith, Frac};
 use lp_model::{Kind, Place, RowKind, Side};
-use sparse_steps::less_product;
+use sparse_steps::{entry, less_product};
 use std::alloc::{AllocError, Global};
 use std::cmp::Ordering;
 
@@ -69,7 +69,7 @@ fn residual<A: Arith>(
     for k in 0..moved.len() {
         let j = moved[k];
         let value = column_bounds(deck, j).start_value();
-        match less_product(rest, entry(deck, row, j), value, arith) {
+        match less_product(rest, entry(deck.column(j), row), value, arith) {
             Ok(left) => rest = left,
             Err(_) => return Err(product_place(row, j)),
         }
@@ -192,15 +192,6 @@ fn finite(end: End) -> Option<Frac>
         End::At(value) => Some(value),
         End::Minus | End::Plus => None,
     }
-}
-
-// The entry of a deck in a row and a column.
-#[tactic(auto, using(exact_frac::specs::Constants::constants))]
-fn entry(deck: &Deck, row: usize, column: usize) -> Frac
-    requires { column < length deck.now.columns }
-    ensures { result ≡ entry_of deck.now row column }
-{
-    deck.column(column).get(row).unwrap_or(Frac::ZERO)
 }
 
 // The place of a product that is taken from a row's right side.

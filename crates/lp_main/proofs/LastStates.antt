@@ -1,8 +1,8 @@
 -- The state that the run of a log comes to, entry by entry.
-use Rattle.std.proofs.Common.{◌≡◌, ℕ, suc, ◌+◌, ◌<◌, List, take, drop, get_or, length, refl, sym, subst, ap}
+use Rattle.std.proofs.Common.{◌≡◌, ℕ, suc, ◌+◌, ◌<◌, List, take, drop, get_or, length, sym, subst}
 use Rattle.lp_model.specs.declared.Entry.{Entry}
 use Rattle.lp_model.specs.declared.Entry.TheVariants.{Flip, Swap, Turn}
-use Rattle.lp_run.specs.Instance.{Instance, IsWellFormed, column_count}
+use Rattle.lp_run.specs.Instance.{Instance, IsWellFormed}
 use Rattle.lp_run.specs.Run.{IsRun}
 use Rattle.lp_run.specs.State.{State, after, basic, start_of}
 use Rattle.lp_run.specs.Step.{IsNext}

@@ -1,6 +1,12 @@
 pub mod Reporting
 pub mod Solving
+pub mod FirstFaults
+pub mod Laying
+pub mod LayoutEnds
+pub mod Summing
+pub mod SummaryEnds
 pub mod Ending
+pub mod Sizes
 pub mod LastStates
 pub mod Behind
 pub mod Judging

@@ -9,8 +9,8 @@ use Rattle.lp_model.specs.Deck.{Deck, IsDeck}
 use Rattle.lp_model.specs.Outcome.{Outcome, infeasible, optimal, unbounded}
 use Rattle.rational.specs.Rational.{ℚ, neg_ℚ}
 use Rattle.rational.proofs.VectorLaws.{length-map-upto}
-use Rattle.lp_run.specs.Ends.{Yields, HasOutcome, by_position, point, prices_in, ray}
-use Rattle.lp_run.specs.Instance.{Instance, instance_of, row_count, structural_count}
+use Rattle.lp_run.specs.Ends.{HasOutcome, prices_in}
+use Rattle.lp_run.specs.Instance.{Instance, instance_of, structural_count}
 use Rattle.lp_run.specs.Listing.{Overflows, first_unfit, start_listing}
 use Rattle.lp_run.specs.Run.{IsRun}
 use Rattle.lp_run.specs.State.{State}
@@ -23,7 +23,6 @@ use Rattle.lp_laws.proofs.AlongRays.{endless}
 use Rattle.deck_model.specs.Outcome.{HasLengthsOf, outcome_of}
 use Rattle.lp_text.specs.Report.{Report}
 use Rattle.crew.specs.declared.closing.Closed.{Closed}
-use Rattle.crew.specs.declared.faults.CrewFault.{CrewFault}
 use Rattle.crew.specs.declared.faults.CrewFault.TheVariants as fault
 use Rattle.crew.specs.Answers.{HasClosed, IsCause as IsCrewCause}
 use Rattle.crew.proofs.Complete.{spent_below, start_overflows}
@@ -31,7 +30,7 @@ use Rattle.plain_table.specs.Answers.{IsRunLog}
 use Rattle.lp_main.specs.declared.refusal.Refusal.{Refusal}
 use Rattle.lp_main.specs.declared.refusal.Refusal.TheVariants as refusal
 use Rattle.lp_main.specs.declared.words.Asked.{Asked}
-use Rattle.lp_main.specs.Serves.{IsSolved, Means, stated}
+use Rattle.lp_main.specs.Serves.{Means, stated}
 use Rattle.lp_main.specs.Solves.{IsReportCause, IsReportOf}
 
 -- ── the outcome's lists ──

@@ -5,6 +5,7 @@ use Rattle.lp_model.specs.Deck.{Deck}
 use Rattle.lp_text.specs.Lines.{Line, lines_of}
 use Rattle.lp_text.specs.Report.{Report}
 use Rattle.mps_cards.specs.NextLine.{FailsToRead, lines_left}
+use Rattle.lp_text.specs.declared.Form.{Form}
 use Rattle.mps_model.specs.DeckOf.{IsDeckOf}
 use Rattle.lp_text.specs.Limits.{report_limit}
 use Rattle.report_lines.specs.declared.flaw.Flaw.{Flaw}
@@ -24,15 +25,15 @@ use Rattle.lp_main.specs.Serves.{IsCutOff, IsFirstFault}
 use Rattle.lp_main.specs.Verdicts.{accepted_line, refused_line, rule_name}
 
 -- the text is a deck, behind whose last line these lines stand
-pub record HasBehind (text : List ℕ) (d : Deck) (behind : List Line) : Type 0 where
+pub record HasBehind (form : Form) (text : List ℕ) (d : Deck) (behind : List Line) : Type 0 where
   pub line : ℕ
-  pub deck : IsDeckOf text d line
+  pub deck : IsDeckOf form text d line
   pub behind_is : behind ≡ drop line (lines_of text)
 
 -- behind the deck the text is that of the report, which is one of the deck
-pub record TellsReport (text : List ℕ) (d : Deck) (report : Report) : Type 0 where
+pub record TellsReport (form : Form) (text : List ℕ) (d : Deck) (report : Report) : Type 0 where
   pub rest : List ℕ
-  pub behind : HasBehind text d (lines_of rest)
+  pub behind : HasBehind form text d (lines_of rest)
   pub is : IsTextOf d report rest
   pub of_deck : IsReportOf d report
 
@@ -44,35 +45,39 @@ IsVerdictOn w d report answer.Refused line =
     (rule : Rule) × Judges w (walk d report.outcome report.basis) (Ok (No rule)) × (line ≡ refused_line d rule)
 
 -- the line is the verdict on the report that the text tells
-abbrev pub IsVerdict : ℕ → List ℕ → Answer → List ℕ → Type 0
-IsVerdict w text ans line = (d : Deck) × (report : Report) × TellsReport text d report × IsVerdictOn w d report ans line
+abbrev pub IsVerdict : Form → ℕ → List ℕ → Answer → List ℕ → Type 0
+IsVerdict form w text ans line = (d : Deck) × (report : Report) × TellsReport form text d report × IsVerdictOn w d report ans line
+
+-- the input was read to its end
+abbrev pub IsReadToEnd : Option (List ℕ) → Type 0
+IsReadToEnd left = IfSome left (λ bytes. bytes ≡ [])
 
 -- the sink gained the verdict
-abbrev pub GivesVerdict : ℕ → Option (List ℕ) → Option (List ℕ) → Answer → List ℕ → Type 0
-GivesVerdict w old new ans text = (line : List ℕ) × IsVerdict w text ans line × Appends old new line
+abbrev pub GivesVerdict : Form → ℕ → Option (List ℕ) → Option (List ℕ) → Answer → List ℕ → Type 0
+GivesVerdict form w old new ans text = (line : List ℕ) × IsVerdict form w text ans line × Appends old new line
 
 -- the sink gained the beginning of a verdict
-abbrev pub BeginsVerdict : ℕ → Option (List ℕ) → Option (List ℕ) → List ℕ → Type 0
-BeginsVerdict w old new text = (ans : Answer) × (line : List ℕ) × IsVerdict w text ans line × AppendsPrefix old new line
+abbrev pub BeginsVerdict : Form → ℕ → Option (List ℕ) → Option (List ℕ) → List ℕ → Type 0
+BeginsVerdict form w old new text = (ans : Answer) × (line : List ℕ) × IsVerdict form w text ans line × AppendsPrefix old new line
 
 -- the line of this number, counted from the text's first, has the first flaw of what stands behind the deck
-abbrev pub IsReportFlaw : ℕ → Flaw → List ℕ → Type 0
-IsReportFlaw number found text =
-    (d : Deck) × (behind : List Line) × (h : HasBehind text d behind) × (k : ℕ) × (number ≡ counted_on k h.line) × HasFirstFlaw d behind k found
+abbrev pub IsReportFlaw : Form → ℕ → Flaw → List ℕ → Type 0
+IsReportFlaw form number found text =
+    (d : Deck) × (behind : List Line) × (h : HasBehind form text d behind) × (k : ℕ) × (number ≡ counted_on k h.line) × HasFirstFlaw d behind k found
 
 -- the first item of the walk that stops it has a sum that does not fit
-abbrev pub IsUnfit : ℕ → Rule → Option (List ℕ) → List ℕ → Type 0
-IsUnfit w rule name text =
-    (d : Deck) × (report : Report) × TellsReport text d report × Judges w (walk d report.outcome report.basis) (Err (Overflow rule)) × (name ≡ rule_name d rule)
+abbrev pub IsUnfit : Form → ℕ → Rule → Option (List ℕ) → List ℕ → Type 0
+IsUnfit form w rule name text =
+    (d : Deck) × (report : Report) × TellsReport form text d report × Judges w (walk d report.outcome report.basis) (Err (Overflow rule)) × (name ≡ rule_name d rule)
 
 -- a read failed behind the deck: the lines that were read whole are those of a report, and no more than it may have; what was read behind them has no whole line
-pub record IsReportCutOff (left : Option (List ℕ)) (faults faults' : ℕ) (text : List ℕ) : Type 0 where
+pub record IsReportCutOff (form : Form) (left : Option (List ℕ)) (faults faults' : ℕ) (text : List ℕ) : Type 0 where
   pub d : Deck
   pub lines : List Line
   pub kept : List ℕ
   pub left_behind : Option (List ℕ)
   pub behind : List Line
-  pub has : HasBehind text d (lines ++ behind)
+  pub has : HasBehind form text d (lines ++ behind)
   pub rest : lines_left kept left_behind ≡ Some behind
   pub within : IsWithinLimits lines
   pub expected : List Expected
@@ -80,13 +85,11 @@ pub record IsReportCutOff (left : Option (List ℕ)) (faults faults' : ℕ) (tex
   pub fails : FailsToRead kept (sizes lines) report_limit left_behind left faults faults'
 
 -- why a check gave no verdict, and what it left in the sink
-abbrev pub IsCheckCause : ℕ → Option (List ℕ) → Option (List ℕ) → ℕ → ℕ → Option (List ℕ) → Option (List ℕ) → Refusal → Type 0
-IsCheckCause w text left faults faults' old new (refusal.Deck fault) = IfSome text (λ t. IsFirstFault t fault) × (new ≡ old)
-IsCheckCause w text left faults faults' old new refusal.Read = IfSome text (λ t. IsCutOff left t ⊎ IsReportCutOff left faults faults' t) × (new ≡ old)
-IsCheckCause w text left faults faults' old new (refusal.Report number found) = IfSome text (IsReportFlaw number found) × (new ≡ old)
-IsCheckCause w text left faults faults' old new (refusal.Unfit rule name) = IfSome text (IsUnfit w rule name) × (new ≡ old)
-IsCheckCause w text left faults faults' old new refusal.Write = IfSome text (BeginsVerdict w old new)
-IsCheckCause w text left faults faults' old new refusal.Memory = (new ≡ old) ⊎ IfSome text (BeginsVerdict w old new)
-IsCheckCause w text left faults faults' old new refusal.Usage = ⊥
-IsCheckCause w text left faults faults' old new (refusal.Overflow here) = ⊥
-IsCheckCause w text left faults faults' old new (refusal.Budget moves) = ⊥
+abbrev pub IsCheckCause : Form → ℕ → Option (List ℕ) → Option (List ℕ) → ℕ → ℕ → Option (List ℕ) → Option (List ℕ) → Refusal → Type 0
+IsCheckCause form w text left faults faults' old new (refusal.Deck fault) = IfSome text (λ t. IsFirstFault form t fault) × (new ≡ old)
+IsCheckCause form w text left faults faults' old new refusal.Read = IfSome text (λ t. IsCutOff form left t ⊎ IsReportCutOff form left faults faults' t) × (new ≡ old)
+IsCheckCause form w text left faults faults' old new (refusal.Report number found) = IfSome text (IsReportFlaw form number found) × (new ≡ old)
+IsCheckCause form w text left faults faults' old new (refusal.Unfit rule name) = IfSome text (IsUnfit form w rule name) × (new ≡ old)
+IsCheckCause form w text left faults faults' old new refusal.Write = IfSome text (BeginsVerdict form w old new)
+IsCheckCause form w text left faults faults' old new refusal.Memory = (new ≡ old) ⊎ IfSome text (BeginsVerdict form w old new)
+IsCheckCause form w text left faults faults' old new other = ⊥

@@ -5,7 +5,7 @@ use Rattle.lp_main.specs.Refusals.{ended, memory_line, read_line}
 use Rattle.lp_text.specs.declared.Counted.{Counted}
 use Rattle.lp_text.specs.declared.Counted.TheVariants as counted
 use Rattle.lp_text.specs.declared.LineFault.{LineFault}
-use Rattle.lp_text.specs.declared.LineFault.TheVariants.{Bound, Columns, Integer, Limit, NotAscii, Number, Repeated, RowType, Scattered, Section, UnknownColumn, UnknownRow}
+use Rattle.lp_text.specs.declared.LineFault.TheVariants.{Bound, Columns, Integer, Limit, NotAscii, Number, Repeated, RowType, Scattered, Section, Sense, Token, UnknownColumn, UnknownRow}
 use Rattle.mps_model.specs.DeckOf.{TextFault, crossed_bounds, in_line, no_end, no_objective}
 use Rattle.mps_reader.specs.declared.faults.DeckFault.{DeckFault}
 use Rattle.mps_reader.specs.declared.faults.DeckFault.TheVariants as deck
@@ -23,6 +23,8 @@ abbrev pub line_words : LineFault → List ℕ
 line_words (Limit what) = limit_words what
 line_words NotAscii = codes ": byte not printable"
 line_words (Columns c) = codes ": column " ++ decimal c
+line_words Token = codes ": token"
+line_words Sense = codes ": sense"
 line_words Section = codes ": section"
 line_words RowType = codes ": row type"
 line_words UnknownRow = codes ": unknown row"

@@ -1,2 +1,3 @@
--- inner: what the parts of a check answer.
+-- inner: what the parts of a check, and of writing a deck, answer.
 pub mod Checking
+pub mod Laying

@@ -9,6 +9,8 @@ pub mod Refusal
 pub mod Words
 pub mod Serves
 pub mod Solves
+pub mod Layouts
+pub mod Summaries
 pub mod Checks
 pub mod Ends
 pub mod Runs

@@ -17,5 +17,9 @@ write_line = ended (codes "lp: write failed")
 abbrev pub memory_line : List ℕ
 memory_line = ended (codes "lp: out of memory")
 
+-- the name is that of the number's row or column, or of the objective where it is the constant
+abbrev pub wide_line : List ℕ → List ℕ
+wide_line name = ended (codes "lp: number without card spelling at " ++ name)
+
 abbrev pub budget_line : ℕ → List ℕ
 budget_line n = ended (codes "lp: budget spent after " ++ decimal n ++ codes " moves")

@@ -14,6 +14,7 @@ use Rattle.lp_run.specs.Run.{IsRun, IsSpent}
 use Rattle.lp_run.specs.State.{State}
 use Rattle.bland_laws.specs.Ends.{run_bound}
 use Rattle.bland_laws.specs.OutcomeProves.{OutcomeProves}
+use Rattle.lp_text.specs.declared.Form.{Form}
 use Rattle.mps_model.specs.DeckOf.{HasFault, IsDeckOf, Reading, has_fault, is_deck}
 use Rattle.mps_reader.specs.declared.faults.DeckFault.{DeckFault}
 use Rattle.mps_reader.specs.Answers.{IsReadNeeded}
@@ -51,7 +52,7 @@ stated asked log o last = record { outcome = o; basis = told asked.version last;
 abbrev pub IsReport : Asked → List ℕ → List ℕ → Type 0
 IsReport asked text report =
     (d : Deck) × (line : ℕ) × (log : List Entry) × (o : Outcome) × (last : State)
-    × IsDeckOf text d line × IsSolved asked.budget d log o × IsRun (instance_of d) log last × (report ≡ text_of_report d (stated asked log o last))
+    × IsDeckOf asked.form text d line × IsSolved asked.budget d log o × IsRun (instance_of d) log last × (report ≡ text_of_report d (stated asked log o last))
 
 -- the sink gained that report
 abbrev pub Reports : Asked → Option (List ℕ) → Option (List ℕ) → List ℕ → Type 0
@@ -62,21 +63,21 @@ abbrev pub BeginsReport : Asked → Option (List ℕ) → Option (List ℕ) → 
 BeginsReport asked old new text = (report : List ℕ) × IsReport asked text report × AppendsPrefix old new report
 
 -- the fault that the reader answers is the text's first
-abbrev pub IsFirstFault : List ℕ → DeckFault → Type 0
-IsFirstFault text fault = MatchOption (text_fault fault) ⊥ (HasFault text)
+abbrev pub IsFirstFault : Form → List ℕ → DeckFault → Type 0
+IsFirstFault form text fault = MatchOption (text_fault fault) ⊥ (HasFault form text)
 
 -- what was taken before a read failed has no whole line with a fault, and none that ends the deck; it is no more than a deck may have
-abbrev pub IsCutOff : Option (List ℕ) → List ℕ → Type 0
-IsCutOff new text = (taken : List ℕ) × Gives (Some text) new taken × IsReadNeeded taken
+abbrev pub IsCutOff : Form → Option (List ℕ) → List ℕ → Type 0
+IsCutOff form new text = (taken : List ℕ) × Gives (Some text) new taken × IsReadNeeded form taken
 
 -- the run of the text's deck comes within the budget to a value that does not fit w bits, and the first one stands here
 abbrev pub IsOverflow : Asked → ℕ → Place → List ℕ → Type 0
-IsOverflow asked w here text = (d : Deck) × (line : ℕ) × IsDeckOf text d line × Overflows w asked.budget (instance_of d) here
+IsOverflow asked w here text = (d : Deck) × (line : ℕ) × IsDeckOf asked.form text d line × Overflows w asked.budget (instance_of d) here
 
 -- the run of the text's deck needs more moves than the budget, which is n, and below the bound of the run by Bland's theorem
 abbrev pub IsOverBudget : Asked → ℕ → List ℕ → Type 0
 IsOverBudget asked n text =
-    (n ≡ asked.budget) × (d : Deck) × (line : ℕ) × IsDeckOf text d line × IsSpent (instance_of d) asked.budget × (asked.budget < run_bound (instance_of d))
+    (n ≡ asked.budget) × (d : Deck) × (line : ℕ) × IsDeckOf asked.form text d line × IsSpent (instance_of d) asked.budget × (asked.budget < run_bound (instance_of d))
 
 abbrev pub IsOrMemory : Status → Status → Type 0
 IsOrMemory s s' = (s ≡ s') ⊎ (s ≡ status.Memory)

@@ -9,6 +9,7 @@ use Rattle.lp_run.specs.State.{State}
 use Rattle.bland_laws.specs.Ends.{run_bound}
 use Rattle.deck_model.specs.Outcome.{HasLengthsOf}
 use Rattle.lp_text.specs.Report.{Report}
+use Rattle.lp_text.specs.declared.Form.{Form}
 use Rattle.mps_model.specs.DeckOf.{IsDeckOf}
 use Rattle.mps_reader.specs.declared.faults.DeckFault.{DeckFault}
 use Rattle.mps_reader.specs.declared.faults.DeckFault.TheVariants as fault
@@ -24,32 +25,25 @@ refusal_of fault.Memory = refusal.Memory
 refusal_of fault = refusal.Deck fault
 
 -- the text is the deck
-abbrev pub IsRead : List ℕ → Deck → Type 0
-IsRead text d = (line : ℕ) × IsDeckOf text d line
+abbrev pub IsRead : Form → List ℕ → Deck → Type 0
+IsRead form text d = (line : ℕ) × IsDeckOf form text d line
 
 -- why no deck was read: the text's first fault; or a read failed, and what was taken before has no fault
-abbrev pub IsReadingCause : Option (List ℕ) → Option (List ℕ) → Refusal → Type 0
-IsReadingCause text left (refusal.Deck fault) = IfSome text (λ t. IsFirstFault t fault)
-IsReadingCause text left refusal.Read = IfSome text (IsCutOff left)
-IsReadingCause text left refusal.Memory = Unit {0}
-IsReadingCause text left refusal.Usage = ⊥
-IsReadingCause text left refusal.Write = ⊥
-IsReadingCause text left (refusal.Overflow here) = ⊥
-IsReadingCause text left (refusal.Budget moves) = ⊥
-IsReadingCause text left (refusal.Report number flaw) = ⊥
-IsReadingCause text left (refusal.Unfit rule name) = ⊥
+abbrev pub IsReadingCause : Form → Option (List ℕ) → Option (List ℕ) → Refusal → Type 0
+IsReadingCause form text left (refusal.Deck fault) = IfSome text (λ t. IsFirstFault form t fault)
+IsReadingCause form text left refusal.Read = IfSome text (IsCutOff form left)
+IsReadingCause form text left refusal.Memory = Unit {0}
+IsReadingCause form text left other = ⊥
 
 -- why a solve wrote no report, and what it left in the sink
 abbrev pub IsCause : Asked → ℕ → Option (List ℕ) → Option (List ℕ) → Option (List ℕ) → Option (List ℕ) → Refusal → Type 0
-IsCause asked w text left old new (refusal.Deck fault) = IfSome text (λ t. IsFirstFault t fault) × (new ≡ old)
-IsCause asked w text left old new refusal.Read = IfSome text (IsCutOff left) × (new ≡ old)
+IsCause asked w text left old new (refusal.Deck fault) = IfSome text (λ t. IsFirstFault asked.form t fault) × (new ≡ old)
+IsCause asked w text left old new refusal.Read = IfSome text (IsCutOff asked.form left) × (new ≡ old)
 IsCause asked w text left old new refusal.Write = IfSome text (BeginsReport asked old new)
 IsCause asked w text left old new (refusal.Overflow here) = IfSome text (IsOverflow asked w here) × (new ≡ old)
 IsCause asked w text left old new (refusal.Budget moves) = IfSome text (IsOverBudget asked moves) × (new ≡ old)
 IsCause asked w text left old new refusal.Memory = (new ≡ old) ⊎ IfSome text (BeginsReport asked old new)
-IsCause asked w text left old new refusal.Usage = ⊥
-IsCause asked w text left old new (refusal.Report number flaw) = ⊥
-IsCause asked w text left old new (refusal.Unfit rule name) = ⊥
+IsCause asked w text left old new other = ⊥
 
 -- the report states the outcome of the deck's whole run, as it is asked for
 pub record IsReportOf (asked : Asked) (d : Deck) (report : Report) : Type 0 where
@@ -65,21 +59,10 @@ abbrev pub IsReportCause : Asked → ℕ → Deck → Refusal → Type 0
 IsReportCause asked w d (refusal.Overflow here) = Overflows w asked.budget (instance_of d) here
 IsReportCause asked w d (refusal.Budget moves) = (moves ≡ asked.budget) × IsSpent (instance_of d) asked.budget × (asked.budget < run_bound (instance_of d))
 IsReportCause asked w d refusal.Memory = Unit {0}
-IsReportCause asked w d refusal.Read = ⊥
-IsReportCause asked w d (refusal.Deck fault) = ⊥
-IsReportCause asked w d refusal.Usage = ⊥
-IsReportCause asked w d refusal.Write = ⊥
-IsReportCause asked w d (refusal.Report number flaw) = ⊥
-IsReportCause asked w d (refusal.Unfit rule name) = ⊥
+IsReportCause asked w d other = ⊥
 
 -- why a report was not written to its end
 abbrev pub IsWriteCause : Refusal → Type 0
 IsWriteCause refusal.Write = Unit {0}
 IsWriteCause refusal.Memory = Unit {0}
-IsWriteCause refusal.Read = ⊥
-IsWriteCause (refusal.Deck fault) = ⊥
-IsWriteCause refusal.Usage = ⊥
-IsWriteCause (refusal.Overflow here) = ⊥
-IsWriteCause (refusal.Budget moves) = ⊥
-IsWriteCause (refusal.Report number flaw) = ⊥
-IsWriteCause (refusal.Unfit rule name) = ⊥
+IsWriteCause other = ⊥

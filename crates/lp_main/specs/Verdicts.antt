@@ -1,5 +1,5 @@
 -- The lines of a check: of a verdict, of a flaw of the report, and of a sum that does not fit.
-use Rattle.std.specs.Prelude.{ℕ, List, [], ◌∷◌, ◌++◌, Option, Some, None, codes}
+use Rattle.std.specs.Prelude.{ℕ, List, ◌∷◌, ◌++◌, Option, Some, None, codes}
 use Rattle.std.specs.Fmt.{decimal}
 use Rattle.lp_model.specs.Deck.{Deck, column, row}
 use Rattle.lp_model.specs.Outcome.{Outcome, infeasible, optimal, unbounded}

@@ -1,26 +1,34 @@
 -- What is served of what the words ask for.
-use Rattle.std.specs.Prelude.{◌≡◌, Option, Some, None, false}
+use Rattle.std.specs.Prelude.{◌≡◌, ◌≤◌, Option, Some, None, Bool, true, false}
+use Rattle.lp_text.specs.declared.Form.{Form}
+use Rattle.lp_text.specs.declared.Form.TheVariants.{Fixed, Free}
 use Rattle.lp_words.specs.declared.wishes.Wish.{Wish}
-use Rattle.lp_words.specs.declared.wishes.Wish.TheVariants.{Check, Solve}
+use Rattle.lp_words.specs.declared.wishes.Wish.TheVariants.{Check, Deck, Make, Solve}
 use Rattle.lp_main.specs.declared.words.Task.{Task}
 use Rattle.lp_main.specs.declared.words.Task.TheVariants as task
 use Rattle.lp_main.specs.declared.refusal.Refusal.{Refusal}
 use Rattle.lp_main.specs.declared.refusal.Refusal.TheVariants as refusal
 
--- what is served of a wish: a solve of a deck in fixed form, or a check of a report behind such a deck
+-- the form of a deck, by whether the words ask for the free one
+abbrev pub form_of : Bool → Form
+form_of true = Free
+form_of false = Fixed
+
+-- what is asked for: a solve of a deck, a check of a report behind a deck, a deck in its layout, or a transport deck
 abbrev pub task_of : Option Wish → Option Task
-task_of (Some (Solve workers reinverters budget log false version)) = Some (task.Solve (record { budget = budget; log = log; version = version }))
-task_of (Some (Check false)) = Some task.Check
+task_of (Some (Solve workers reinverters budget log free version)) = Some (task.Solve (record { form = form_of free; budget = budget; log = log; version = version }))
+task_of (Some (Check free)) = Some (task.Check (form_of free))
+task_of (Some (Deck free)) = Some (task.Deck (form_of free))
+task_of (Some (Make n)) = Some (task.Make n)
 task_of other = None
+
+-- transport decks have sizes from 1 to 20
+abbrev pub IsServed : Task → Type 0
+IsServed (task.Make n) = (1 ≤ n) × (n ≤ 20)
+IsServed other = Unit {0}
 
 -- why nothing is served: nothing that is served is asked for, or memory ran out
 abbrev pub IsUnserved : Option Task → Refusal → Type 0
 IsUnserved what refusal.Usage = what ≡ None
 IsUnserved what refusal.Memory = Unit {0}
-IsUnserved what refusal.Read = ⊥
-IsUnserved what refusal.Write = ⊥
-IsUnserved what (refusal.Deck fault) = ⊥
-IsUnserved what (refusal.Overflow here) = ⊥
-IsUnserved what (refusal.Budget moves) = ⊥
-IsUnserved what (refusal.Report number flaw) = ⊥
-IsUnserved what (refusal.Unfit rule name) = ⊥
+IsUnserved what other = ⊥

@@ -1,11 +1,11 @@
 // A check of the report behind a deck.
-ghost use Rattle.std.specs.Prelude.{◌≡◌, ◌≤◌, ℕ, IfOk, IfSome, IfErr, IsErrOf, Ok};
+ghost use Rattle.std.specs.Prelude.{◌≡◌, ◌≤◌, ℕ, IfOk, IfSome, IfErr, IsErrOf, Ok, OnOk};
 ghost use Rattle.io_ends.specs.Count.{Rose};
 ghost use Rattle.cert_check.specs.Judged.{Judges};
 ghost use Rattle.cert_check.specs.Proved.{Tells};
 ghost use Rattle.cert_check.specs.Walk.{walk};
 ghost use Rattle.report_reader.specs.Reading.{IsReportOf};
-ghost use Rattle.lp_main.specs.Checks.{GivesVerdict, IsCheckCause, IsVerdictOn, TellsReport};
+ghost use Rattle.lp_main.specs.Checks.{GivesVerdict, IsCheckCause, IsReadToEnd, IsVerdictOn, TellsReport};
 ghost use Rattle.lp_main.specs.Inner.Checking.{IsBothCause, IsJudgeCause, answer_of, refusal_of_report};
 
 use crate::refusal::Refusal;
@@ -17,10 +17,12 @@ use cert_text::Report;
 use deck_model::Deck;
 use exact_frac::Arith;
 use io_ends::{Sink, Source, write_all};
+use lp_text::Form;
 use mps_cards::LineReader;
 use no_memory::Memory;
 use report_reader::{ReportFault, read_report};
 use std::alloc::Global;
+use std::thread::Threads;
 
 /// The refusal where the reader of reports refuses.
 fn refusal_of_report(fault: ReportFault) -> Refusal
@@ -34,10 +36,15 @@ fn refusal_of_report(fault: ReportFault) -> Refusal
 }
 
 /// Reads a deck, and the report behind it.
-fn read_both<S: Source>(alloc: Global, source: &mut S) -> Result<(Deck, Report), Refusal>
-    ensures told { IfOk result (λ both. IfSome (S.remaining source.old) (λ text. TellsReport text both.0 both.1)) }
+fn read_both<S: Source>(
+    alloc: Global,
+    form: Form,
+    source: &mut S,
+) -> Result<(Deck, Report), Refusal>
+    ensures told { IfOk result (λ both. IfSome (S.remaining source.old) (λ text. TellsReport form text both.0 both.1)) }
     ensures of_deck { IfOk result (λ both. IsReportOf both.0 both.1) }
-    ensures cause { IfErr result (IsBothCause (S.remaining source.old) (S.remaining source.new) (S.fault_count source.old) (S.fault_count source.new)) }
+    ensures end { OnOk result (IsReadToEnd (S.remaining source.new)) }
+    ensures cause { IfErr result (IsBothCause form (S.remaining source.old) (S.remaining source.new) (S.fault_count source.old) (S.fault_count source.new)) }
     ensures rose { IsErrOf result Refusal.Read → Rose (S.fault_count source.old) (S.fault_count source.new) }
     ensures stays { ¬ IsErrOf result Refusal.Read → S.fault_count source.new ≡ S.fault_count source.old }
     ensures never_falls { S.fault_count source.old ≤ S.fault_count source.new }
@@ -45,7 +52,7 @@ fn read_both<S: Source>(alloc: Global, source: &mut S) -> Result<(Deck, Report),
     let Ok(mut lines) = LineReader::new(alloc) else {
         return Err(Refusal::Memory);
     };
-    let deck = load(alloc, &mut lines, source)?;
+    let deck = load(alloc, &mut lines, source, form)?;
     lines.mark();
     match read_report(alloc, &mut lines, source, &deck) {
         Ok(report) => Ok((deck, report)),
@@ -54,7 +61,8 @@ fn read_both<S: Source>(alloc: Global, source: &mut S) -> Result<(Deck, Report),
 }
 
 /// The verdict on a report of a deck.
-fn judge<A: Arith>(
+fn judge<R: Threads + Sync, A: Arith>(
+    rt: &R,
     alloc: Global,
     deck: &Deck,
     report: &Report,
@@ -66,7 +74,14 @@ fn judge<A: Arith>(
     ensures cause { IfErr result (IsJudgeCause (A.width arith.old) deck.now report.now) }
     ensures same_width { A.width arith.new ≡ A.width arith.old }
 {
-    match cert_check::check(alloc, deck, &report.outcome, report.basis.as_ref(), arith) {
+    match cert_check::check(
+        rt,
+        alloc,
+        deck,
+        &report.outcome,
+        report.basis.as_ref(),
+        arith,
+    ) {
         Ok(verdict) => Ok(verdict),
         Err(CheckFault::Memory) => Err(Refusal::Memory),
         Err(CheckFault::Overflow(rule)) => match rule_name(alloc, deck, rule) {
@@ -106,14 +121,17 @@ fn answer_of(verdict: Verdict) -> Answer
 }
 
 /// Judges the report behind the deck of a source, and writes the verdict to a sink.
-pub fn check<S: Source, K: Sink, A: Arith>(
+pub fn check<R: Threads + Sync, S: Source, K: Sink, A: Arith>(
+    rt: &R,
     alloc: Global,
+    form: Form,
     source: &mut S,
     out: &mut K,
     arith: &mut A,
 ) -> Result<Answer, Refusal>
-    ensures done { IfOk result (λ answer. IfSome (S.remaining source.old) (GivesVerdict (A.width arith.old) (K.contents out.old) (K.contents out.new) answer)) }
-    ensures cause { IfErr result (IsCheckCause (A.width arith.old) (S.remaining source.old) (S.remaining source.new)
+    ensures done { IfOk result (λ answer. IfSome (S.remaining source.old) (GivesVerdict form (A.width arith.old) (K.contents out.old) (K.contents out.new) answer)) }
+    ensures end { OnOk result (IsReadToEnd (S.remaining source.new)) }
+    ensures cause { IfErr result (IsCheckCause form (A.width arith.old) (S.remaining source.old) (S.remaining source.new)
         (S.fault_count source.old) (S.fault_count source.new) (K.contents out.old) (K.contents out.new)) }
     ensures source_rose { IsErrOf result Refusal.Read → Rose (S.fault_count source.old) (S.fault_count source.new) }
     ensures source_stays { ¬ IsErrOf result Refusal.Read → S.fault_count source.new ≡ S.fault_count source.old }
@@ -123,8 +141,8 @@ pub fn check<S: Source, K: Sink, A: Arith>(
     ensures sink_never_falls { K.fault_count out.old ≤ K.fault_count out.new }
     ensures same_width { A.width arith.new ≡ A.width arith.old }
 {
-    let (deck, report) = read_both(alloc, source)?;
-    let verdict = judge(alloc, &deck, &report, arith)?;
+    let (deck, report) = read_both(alloc, form, source)?;
+    let verdict = judge(rt, alloc, &deck, &report, arith)?;
     let Ok(line) = verdict_line(alloc, &deck, &report, verdict) else {
         return Err(Refusal::Memory);
     };

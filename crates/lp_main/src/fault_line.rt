@@ -1,7 +1,7 @@
 // The lines of the faults of a deck.
 ghost use Rattle.std.specs.Prelude.{◌≡◌, ◌++◌, IfOk, codes};
 ghost use Rattle.std.specs.Fmt.{decimal};
-ghost use Rattle.lp_main.specs.Refusals.{ended};
+ghost use Rattle.lp_main.specs.Refusals.{ended, wide_line};
 ghost use Rattle.mps_model.specs.DeckOf.{crossed_bounds, in_line};
 ghost use Rattle.lp_main.specs.FaultLines.{fault_line, limit_words, reader_line};
 
@@ -56,6 +56,16 @@ fn crossed(alloc: Global, name: &Name) -> Result<Vec<u8>, AllocError>
     Ok(line)
 }
 
+/// The line of a number without a spelling on a card, which belongs to this name.
+pub fn wide_line(alloc: Global, name: &Name) -> Result<Vec<u8>, AllocError>
+    ensures { IfOk result (λ line. line.items ≡ wide_line name.now) }
+{
+    let mut line = Vec::from_slice(alloc, b"lp: number without card spelling at ")?;
+    line.extend_from_slice(name.bytes())?;
+    line.push(b'\n')?;
+    Ok(line)
+}
+
 /// What is said of a limit.
 fn limit_words(what: Counted) -> &'static str
     ensures { result.now ≡ limit_words what }
@@ -76,6 +86,8 @@ fn in_line(alloc: Global, line: u64, fault: LineFault) -> Result<Vec<u8>, AllocE
         LineFault::Limit(what) => numbered(alloc, "lp: line ", line, limit_words(what)),
         LineFault::NotAscii => numbered(alloc, "lp: line ", line, ": byte not printable"),
         LineFault::Columns(column) => at_column(alloc, line, column),
+        LineFault::Token => numbered(alloc, "lp: line ", line, ": token"),
+        LineFault::Sense => numbered(alloc, "lp: line ", line, ": sense"),
         LineFault::Section => numbered(alloc, "lp: line ", line, ": section"),
         LineFault::RowType => numbered(alloc, "lp: line ", line, ": row type"),
         LineFault::UnknownRow => numbered(alloc, "lp: line ", line, ": unknown row"),

@@ -1,17 +1,19 @@
 //! The program `lp`: an exact linear programming system.
 //!
-//! `main` takes its words, makes the ends of the process, and calls [`top::run_alone`], which solves a deck, or checks a report
-//! that stands behind one, and waits for nobody. The contract of `run_alone` is the relation `Runs` of `specs/Runs.antt`, over
-//! any source and any sinks: where they tell their bytes, the bytes written are the report of the deck's one run by Bland's rule
-//! (Bland 1977), as it is asked for, or the verdict on a report; or one line refuses, with its cause.
+//! `main` takes its words, makes the ends of the process, and calls [`top::run_alone`], which solves a deck, checks a report that
+//! stands behind one, writes a deck in its layout, or makes a deck and solves it, and waits for nobody. The contract of
+//! `run_alone` is the relation `Runs` of `specs/Runs.antt`, over any source and any sinks: where they tell their bytes, the bytes
+//! written are the report of the deck's one run by Bland's rule (Bland 1977), as it is asked for, the verdict on a report, the
+//! deck, or the summary of a run; or one line refuses, with its cause.
 //!
-//! Every deck in fixed MPS is read, and each fault of a text has its line. Every deck is solved, in two phases: to an optimal
+//! Every deck in fixed MPS and in its free form is read, and each fault of a text has its line. Every deck is solved, in two phases: to an optimal
 //! point with prices that prove it, to a Farkas row, which leaves no feasible point, or to a feasible point with a ray along
 //! which the objective falls without end. A report of either version is checked, rule by rule.
 //!
 //! What the words ask for is told by `lp_words`. The deck is read by `mps_reader`, made an instance by `instance_model`, solved by
-//! `crew`, and the report written by `cert_text`; a report is read by `report_reader` and judged by `cert_check`. The definitions
-//! that the contract cites are those of `mps_model`, `lp_model`, `lp_text`, `report_lines` and `cert_check`.
+//! `crew`, and the report written by `cert_text`; a report is read by `report_reader` and judged by `cert_check`; a deck is written,
+//! and made, by `deck_tools`. The definitions that the contract cites are those of `mps_model`, `lp_model`, `lp_text`,
+//! `report_lines`, `cert_check` and `deck_tools`.
 #![tactic(auto)]
 
 use crate::refusal::{Refusal, refuse};
@@ -26,6 +28,8 @@ use std::rt::Env;
 mod checking;
 mod fault_line;
 mod last_basis;
+mod layout;
+mod making;
 mod overflow_line;
 mod refusal;
 mod solve;

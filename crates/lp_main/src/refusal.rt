@@ -4,7 +4,7 @@ ghost use Rattle.lp_main.specs.Refusal.{line_of, status_of_refusal};
 ghost use Rattle.lp_main.specs.Says.{Says};
 ghost use Rattle.lp_main.specs.World.{stream};
 
-use crate::fault_line::{fault_line, numbered, whole_line};
+use crate::fault_line::{fault_line, numbered, whole_line, wide_line};
 use crate::overflow_line::overflow_line;
 use crate::status::Status;
 use crate::verdict_line::{flaw_line, unfit_line};
@@ -35,6 +35,8 @@ pub enum Refusal {
     Report(u64, Flaw),
     /// A sum of this rule does not fit the width of the arithmetic; with the name of the rule's column or row.
     Unfit(Rule, Option<Name>),
+    /// A number of a deck that was to be written has no spelling on a card; with the name of its row or column, or of the objective.
+    Wide(Name),
     /// Memory ran out.
     Memory,
 }
@@ -53,6 +55,7 @@ impl Refusal {
             Refusal::Budget(_) => Status::Budget,
             Refusal::Report(_, _) => Status::BadInput,
             Refusal::Unfit(_, _) => Status::Overflow,
+            Refusal::Wide(_) => Status::BadInput,
             Refusal::Memory => Status::Memory,
         }
     }
@@ -73,6 +76,7 @@ impl Refusal {
             Refusal::Budget(moves) => numbered(alloc, "lp: budget spent after ", *moves, " moves"),
             Refusal::Report(number, flaw) => flaw_line(alloc, *number, *flaw),
             Refusal::Unfit(rule, name) => unfit_line(alloc, *rule, name),
+            Refusal::Wide(name) => wide_line(alloc, name),
             Refusal::Memory => whole_line(alloc, "lp: out of memory"),
         }
     }

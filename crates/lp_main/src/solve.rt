@@ -26,6 +26,7 @@ use deck_model::Deck;
 use exact_frac::Arith;
 use instance_model::{Instance, InstanceFault};
 use io_ends::{Sink, Source};
+use lp_text::Form;
 use mps_cards::LineReader;
 use mps_reader::{DeckFault, read_deck};
 use std::alloc::Global;
@@ -47,18 +48,19 @@ pub fn load<S: Source>(
     alloc: Global,
     lines: &mut LineReader,
     source: &mut S,
+    form: Form,
 ) -> Result<Deck, Refusal>
     requires { lines.old ≡ record { kept = []; count = 0; since = 0; fault = None } }
-    ensures read { IfOk result (λ deck. IfSome (S.remaining source.old) (λ text. IsDeckOf text deck lines.new.count)) }
+    ensures read { IfOk result (λ deck. IfSome (S.remaining source.old) (λ text. IsDeckOf form text deck lines.new.count)) }
     ensures rest { OnOk result (lines_left lines.new.kept (S.remaining source.new) ≡ option_map (drop lines.new.count) (lines_left [] (S.remaining source.old))) }
     ensures sound { OnOk result (lines.new.fault ≡ None) }
-    ensures cause { IfErr result (IsReadingCause (S.remaining source.old) (S.remaining source.new)) }
-    ensures needed { IsReadAsNeeded [] (S.remaining source.old) (S.remaining source.new) }
+    ensures cause { IfErr result (IsReadingCause form (S.remaining source.old) (S.remaining source.new)) }
+    ensures needed { IsReadAsNeeded form [] (S.remaining source.old) (S.remaining source.new) }
     ensures rose { IsErrOf result Refusal.Read → Rose (S.fault_count source.old) (S.fault_count source.new) }
     ensures stays { ¬ IsErrOf result Refusal.Read → S.fault_count source.new ≡ S.fault_count source.old }
     ensures never_falls { S.fault_count source.old ≤ S.fault_count source.new }
 {
-    match read_deck(alloc, lines, source) {
+    match read_deck(alloc, lines, source, form) {
         Ok(deck) => Ok(deck),
         Err(fault) => Err(refusal_of(fault)),
     }
@@ -66,7 +68,7 @@ pub fn load<S: Source>(
 
 /// The report of a deck.
 #[tactic(auto, using(crate::proofs::Reporting::start_cause))]
-fn report_of<R: Threads + Sync, A: Arith>(
+pub fn report_of<R: Threads + Sync, A: Arith>(
     rt: &R,
     alloc: Global,
     asked: Asked,
@@ -160,7 +162,7 @@ pub fn solve<R: Threads + Sync, S: Source, K: Sink, A: Arith>(
 ) -> Result<Answer, Refusal>
     ensures done { IfOk result (λ answer. (answer ≡ Answer.Done) × IfSome (S.remaining source.old) (Reports asked (K.contents out.old) (K.contents out.new))) }
     ensures cause { IfErr result (IsCause asked (A.width arith.old) (S.remaining source.old) (S.remaining source.new) (K.contents out.old) (K.contents out.new)) }
-    ensures needed { IsReadAsNeeded [] (S.remaining source.old) (S.remaining source.new) }
+    ensures needed { IsReadAsNeeded asked.form [] (S.remaining source.old) (S.remaining source.new) }
     ensures source_rose { IsErrOf result Refusal.Read → Rose (S.fault_count source.old) (S.fault_count source.new) }
     ensures source_stays { ¬ IsErrOf result Refusal.Read → S.fault_count source.new ≡ S.fault_count source.old }
     ensures source_never_falls { S.fault_count source.old ≤ S.fault_count source.new }
@@ -172,7 +174,7 @@ pub fn solve<R: Threads + Sync, S: Source, K: Sink, A: Arith>(
     let Ok(mut lines) = LineReader::new(alloc) else {
         return Err(Refusal::Memory);
     };
-    let deck = load(alloc, &mut lines, source)?;
+    let deck = load(alloc, &mut lines, source, asked.form)?;
     let report = report_of(rt, alloc, asked, &deck, arith)?;
     write(alloc, &deck, &report, out)?;
     Ok(Answer::Done)

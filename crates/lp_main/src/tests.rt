@@ -8,12 +8,33 @@ use std::alloc::Global;
 use std::test::Fail;
 use std::thread::Threads;
 
-const DECK: &[u8] =
-    b"NAME          T\nROWS\n N  COST\n L  R1\nCOLUMNS\n    X         COST      -1             R1        1\nRHS\n    S         R1        3\nENDATA\n";
+const DECK: &[u8] = b"NAME          T
+ROWS
+ N  COST
+ L  R1
+COLUMNS
+    X         COST      -1             R1        1
+RHS
+    S         R1        3
+ENDATA
+";
 
 /// A deck whose run meets numbers of 4 bits.
-const NARROW: &[u8] =
-    b"NAME          T\nROWS\n N  COST\n L  R1\n L  R2\nCOLUMNS\n    X         COST      -3             R1        1\n    X         R2        -1\n    Z         COST      -3             R2        1\n    W         COST      -14            R1        5\n    W         R2        -4\nRHS\n    S         R1        1              R2        1\nENDATA\n";
+const NARROW: &[u8] = b"NAME          T
+ROWS
+ N  COST
+ L  R1
+ L  R2
+COLUMNS
+    X         COST      -3             R1        1
+    X         R2        -1
+    Z         COST      -3             R2        1
+    W         COST      -14            R1        5
+    W         R2        -4
+RHS
+    S         R1        1              R2        1
+ENDATA
+";
 
 /// The status of a solve.
 fn solved<R: Threads + Sync, A: Arith>(

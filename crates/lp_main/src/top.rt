@@ -9,6 +9,8 @@ ghost use Rattle.lp_main.specs.Words.{task_of};
 ghost use Rattle.lp_main.specs.World.{stream, world};
 
 use crate::checking::check;
+use crate::layout::lay_out;
+use crate::making::make_and_solve;
 use crate::refusal::{Refusal, refuse};
 use crate::solve::solve;
 use crate::status::{Answer, Status};
@@ -18,8 +20,8 @@ use io_ends::{Sink, Source};
 use std::alloc::Global;
 use std::thread::Threads;
 
-/// Serves what the words ask for: reads a deck from `input`, and writes its report to `out`, or reads a report too, and writes
-/// the verdict on it.
+/// Serves what the words ask for: reads a deck from `input`, and writes its report to `out`, or the deck in its layout, or reads a
+/// report too, and writes the verdict on it; or makes a deck, solves it, and writes a summary.
 fn serve<R: Threads + Sync, S: Source, K: Sink, A: Arith>(
     rt: &R,
     alloc: Global,
@@ -43,37 +45,43 @@ fn serve<R: Threads + Sync, S: Source, K: Sink, A: Arith>(
 {
     match served(alloc, words) {
         Ok(Task::Solve(asked)) => solve(rt, alloc, asked, input, out, arith),
-        Ok(Task::Check) => check(alloc, input, out, arith),
+        Ok(Task::Check(form)) => check(rt, alloc, form, input, out, arith),
+        Ok(Task::Deck(form)) => lay_out(alloc, form, input, out),
+        Ok(Task::Make(size)) => make_and_solve(rt, alloc, size, out, arith),
         Err(unserved) => Err(unserved),
     }
 }
 
-/// Does what the words say, and waits for nobody: reads a deck from `input` and writes its report to `out`, or reads a deck and a
-/// report behind it and writes the verdict; and says on `err` why it refuses, where it does.
+/// Does what the words say, and waits for nobody: reads a deck from `input` and writes its report to `out`, or the deck in its
+/// layout, or reads a deck and a report behind it and writes the verdict, or makes a transport deck, solves it and writes a
+/// summary; and says on `err` why it refuses, where it does.
 ///
 /// What `runs` says, where `input` tells the text that it has left:
 ///
-/// - `ends`: the call ends in one way, which has this status. Either `err` gained nothing, and `out` gained what was asked for. Of
-///   a solve that is the report of the one run of the deck that the text is, an optimal point with prices that prove it, a
-///   Farkas row, or a feasible point with a ray, with the run's log and its last basis where they are asked for. Of a check it is
-///   one line: the report behind the deck is accepted, and proves what it states; or the first of the checker's rules that it
-///   breaks. Or `err` gained the one line of a refusal (a beginning of it, where a write there failed), and the refusal has its
-///   cause: words that ask for nothing that is served; the text's first fault, or the report's first flaw; a failed read, where
-///   what was taken has no whole line with a fault; a failed write; the first value of the run, or the first sum of the check,
-///   that does not fit the width, with its place or its rule; or a run longer than the budget, which is then below the bound of
-///   Bland's theorem. `out` gained nothing, but after a failed write or want of memory it may have a beginning of what was to be
-///   written. Where nothing that is served is asked for, nothing is read and nothing written.
-/// - `needed`: a solve reads `input` only as needed, however the call ends: before the last read, of up to 4,096 bytes, no line
+/// - `ends`: the call ends in one way, which has this status. Either `err` gained nothing, and `out` gained what was asked for.
+///   Of a solve that is the report of the one run of the deck that the text is, an optimal point with prices that prove it, a
+///   Farkas row, or a feasible point with a ray, with the run's log and its last basis where they are asked for. Of a check it
+///   is one line: the report behind the deck is accepted, and proves what it states; or the first of the checker's rules that
+///   it breaks; and the input was read to its end. Of `deck` it is the text of the deck in its layout. Of `make` it is the size
+///   of the deck, the moves of its one run, and what that comes to. Or `err` gained the one line of a refusal (a beginning of it,
+///   where a write there failed), and the refusal has its cause: words that ask for nothing that is served; the text's first
+///   fault, or the report's first flaw, or the first number of a deck that has no spelling on a card; a failed read, where what
+///   was taken has no whole line with a fault; a failed write; the first value of the run, or the first sum of the check, that
+///   does not fit the width, with its place or its rule; or a run longer than the budget, which is then below the bound of
+///   Bland's theorem. `out` gained nothing, but after a failed write or want of memory it may have a beginning of what was to
+///   be written. Where nothing that is served is asked for, nothing is read and nothing written.
+/// - `needed`: `solve` and `deck` read `input` only as needed, however the call ends: before the last read, of up to 4,096 bytes, no line
 ///   that stands whole in the bytes that were read has a fault, none ends the deck, and the bytes are no more than a deck may
-///   have.
+///   have. `make` reads nothing.
 /// - `input_never_falls`, `output_never_falls`: the counts of faults of `input` and `out` do not fall.
 /// - `reads`: either no read failed, so that the count of `input` stands, and the status is not `ReadFault`. Or a read failed,
 ///   the count rose, and the status is `ReadFault` or `Memory`: a read was needed after all that was taken, so a solve tries none
 ///   behind the line that ends the deck, and none is tried behind a line that has a fault.
 /// - `writes`: either no write failed, so that the count of `out` stands, and the status is not `WriteFault`. Or a write failed
 ///   behind a beginning of what was to be written, the count rose, and the status is `WriteFault` or `Memory`.
-/// - `answered`: where neither count rose, a text with a fault has `BadInput` and the line of its first fault, and a deck to be
-///   solved whose run ends within the budget, all of whose values fit, has `Done`; or the status is `Memory`.
+/// - `answered`: where neither count rose, a text with a fault has `BadInput` and the line of its first fault, a deck to be
+///   solved whose run ends within the budget, all of whose values fit, has `Done`, and a deck to be written has `Done`, or
+///   `BadInput` and the line of its first number without a spelling; or the status is `Memory`.
 ///
 /// `same_width`: the arithmetic keeps its width.
 pub fn run_alone<R: Threads + Sync, S: Source, K: Sink, E: Sink, A: Arith>(

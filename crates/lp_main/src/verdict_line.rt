@@ -109,7 +109,7 @@ pub fn unfit_line(alloc: Global, rule: Rule, name: &Option<Name>) -> Result<Vec<
 }
 
 /// The word of an outcome.
-fn outcome_word(outcome: &Outcome) -> &'static str
+pub fn outcome_word(outcome: &Outcome) -> &'static str
     ensures { result.now ≡ outcome_word (outcome_of outcome.now) }
 {
     match outcome {

@@ -2,15 +2,18 @@
 ghost use Rattle.std.specs.Prelude.{◌≡◌, IfErr, IfOk, Some, map};
 ghost use Rattle.std.specs.String.{string_bytes};
 ghost use Rattle.lp_words.specs.Words.{wish_of};
-ghost use Rattle.lp_main.specs.Words.{IsUnserved, task_of};
+ghost use Rattle.lp_main.specs.Words.{IsServed, IsUnserved, form_of, task_of};
 
 use crate::refusal::Refusal;
+use lp_text::Form;
 use lp_words::{Wish, WordsFault, wish};
 use std::alloc::Global;
 
 /// What is asked of a solve.
 #[derive(Clone, Copy, Debug)]
 pub struct Asked {
+    /// The form of the deck.
+    pub form: Form,
     /// How many moves the run may take.
     pub budget: u64,
     /// Whether the report tells the run's log.
@@ -24,13 +27,25 @@ pub struct Asked {
 pub enum Task {
     /// A solve of a deck.
     Solve(Asked),
-    /// A check of the report that stands behind a deck.
-    Check,
+    /// A check of the report that stands behind a deck of this form.
+    Check(Form),
+    /// A deck of this form, written in its layout.
+    Deck(Form),
+    /// A solve of the transport deck of a size.
+    Make(u32),
+}
+
+/// The form of a deck, by whether the words ask for the free one.
+fn form_of(free: bool) -> Form
+    ensures { result ≡ form_of free }
+{
+    if free { Form::Free } else { Form::Fixed }
 }
 
 /// What the words ask for.
 pub fn served(alloc: Global, words: &[String]) -> Result<Task, Refusal>
     ensures task { IfOk result (λ task. task_of (wish_of (map string_bytes words.now)) ≡ Some task) }
+    ensures sized { IfOk result IsServed }
     ensures unserved { IfErr result (IsUnserved (task_of (wish_of (map string_bytes words.now)))) }
 {
     match wish(alloc, words) {
@@ -38,17 +53,19 @@ pub fn served(alloc: Global, words: &[String]) -> Result<Task, Refusal>
             Wish::Solve {
                 budget,
                 log,
-                free: false,
+                free,
                 report: version,
                 ..
             },
         ) => Ok(Task::Solve(Asked {
+            form: form_of(free),
             budget,
             log,
             version,
         })),
-        Ok(Wish::Check { free: false }) => Ok(Task::Check),
-        Ok(_) => Err(Refusal::Usage),
+        Ok(Wish::Check { free }) => Ok(Task::Check(form_of(free))),
+        Ok(Wish::Deck { free }) => Ok(Task::Deck(form_of(free))),
+        Ok(Wish::Make(size)) => Ok(Task::Make(size)),
         Err(WordsFault::Usage) => Err(Refusal::Usage),
         Err(WordsFault::Memory) => Err(Refusal::Memory),
     }

@@ -1,5 +1,5 @@
 -- The values that the plain table works along a run, in order, each with its place. A run fits a width where all of them do.
-use Rattle.std.specs.Prelude.{◌≡◌, ℕ, ◌+◌, ◌≤◌, ◌⊎◌, List, [], ◌∷◌, ◌++◌, map, length, get_or, Option, Some, None, ◌||◌, ◌==◌, if◌then◌else◌}
+use Rattle.std.specs.Prelude.{◌≡◌, ℕ, ◌+◌, ◌≤◌, ◌⊎◌, List, [], ◌∷◌, ◌++◌, map, length, get_or, Option, Some, None, Result, MatchResult, ◌||◌, ◌==◌, if◌then◌else◌}
 use Rattle.std.specs.List.{flat_map}
 use Rattle.std.specs.Option.{option_map}
 use Rattle.lp_model.specs.declared.Entry.{Entry}
@@ -191,6 +191,10 @@ first_unfit w ((here, v) ∷ vs) = if fits_width w v then first_unfit w vs else 
 
 abbrev pub AllFit : ℕ → List Listed → Type 0
 AllFit w vs = first_unfit w vs ≡ None
+
+-- the answer is the place of the first listed value that does not fit, and Ok where all fit
+abbrev pub Judges : {A : Type 0} → ℕ → List Listed → Result A Place → Type 0
+Judges w vs result = MatchResult result (λ _. AllFit w vs) (λ here. first_unfit w vs ≡ Some here)
 
 -- the start sums fit the width
 abbrev pub StartFits : ℕ → Instance → Type 0

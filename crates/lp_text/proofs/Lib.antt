@@ -1,3 +1,5 @@
 pub mod LinesLemmas
+pub mod SameBytes
 mod WorkedCards
+mod WorkedFreeCards
 mod WorkedReports

@@ -12,7 +12,7 @@ two_pairs : card_of (codes "    COL A     ROW 1      -12.5           R  2      3
     ≡ Ok (Some (record { is_section = false; fields = [] ∷ codes "COL A" ∷ codes "ROW 1" ∷ codes "-12.5" ∷ codes "R  2" ∷ codes "3E4" ∷ [] }))
 two_pairs = refl
 
-title : card_of (codes "NAME          TRANSP 1  and more" ++ 13 ∷ []) ≡ Ok (Some (record { is_section = true; fields = codes "NAME" ∷ [] ∷ codes "TRANSP 1" ∷ [] ∷ [] ∷ [] ∷ [] }))
+title : card_of (codes "NAME          TRANSP 1  and more" ++ 13 ∷ []) ≡ Ok (Some (record { is_section = true; fields = codes "NAME" ∷ codes "TRANSP" ∷ codes "TRANSP 1" ∷ [] ∷ [] ∷ [] ∷ [] }))
 title = refl
 
 section : card_of (codes "ROWS") ≡ Ok (Some (record { is_section = true; fields = codes "ROWS" ∷ [] ∷ [] ∷ [] ∷ [] ∷ [] ∷ [] }))

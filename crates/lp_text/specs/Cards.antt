@@ -1,11 +1,11 @@
 -- The cards of a deck in fixed MPS columns: what a line is by itself, before it is judged by the cards before it.
 -- Columns count from 1.
-use Rattle.std.specs.Prelude.{ℕ, ◌-◌, List, [], ◌∷◌, reverse, length, map, take, find, slice_index, slice_index_or, slice_range, Option, Some, None, Result, Ok, Err, Bool, true, false, ◌||◌, ◌&&◌, ◌==◌, nat_le, not, if◌then◌else◌}
+use Rattle.std.specs.Prelude.{ℕ, ◌-◌, List, [], ◌∷◌, reverse, length, map, take, filter, find, slice_index, slice_index_or, slice_range, Option, Some, None, Result, Ok, Err, Bool, true, false, ◌||◌, ◌&&◌, ◌==◌, nat_le, nat_lt, not, if◌then◌else◌}
 use Rattle.std.specs.List.{list_all, take_while}
 use Rattle.lp_text.specs.declared.LineFault.{LineFault}
 use Rattle.lp_text.specs.declared.LineFault.TheVariants as fault
 
--- a card of a section, with its word as field 1 and the text of columns 15 to 22 as field 3, or a card of data; six fields
+-- a card of a section, with its word as field 1, its second word as field 2 and the text of columns 15 to 22 as field 3, or a card of data; six fields
 pub record Card : Type 0 where
   pub is_section : Bool
   pub fields : List (List ℕ)
@@ -40,6 +40,20 @@ without_leading (c ∷ text) = if is_blank c then without_leading text else c �
 abbrev pub trimmed : List ℕ → List ℕ
 trimmed text = reverse (without_leading (reverse (without_leading text)))
 
+-- a byte before the first piece's others
+abbrev pub onto_first_piece : ℕ → List (List ℕ) → List (List ℕ)
+onto_first_piece c [] = (c ∷ []) ∷ []
+onto_first_piece c (piece ∷ pieces) = (c ∷ piece) ∷ pieces
+
+-- the pieces of a text that is cut at each blank
+abbrev pub pieces_of : List ℕ → List (List ℕ)
+pieces_of [] = []
+pieces_of (c ∷ text) = if is_blank c then [] ∷ pieces_of text else onto_first_piece c (pieces_of text)
+
+-- the words of a text, between blanks: its pieces that are not empty
+abbrev pub words_of : List ℕ → List (List ℕ)
+words_of text = filter (λ piece. nat_lt 0 (length piece)) (pieces_of text)
+
 -- the columns that are blank in a card of data
 abbrev pub gaps : List ℕ
 gaps = 4 ∷ 13 ∷ 14 ∷ 23 ∷ 24 ∷ 37 ∷ 38 ∷ 39 ∷ 48 ∷ 49 ∷ []
@@ -54,12 +68,12 @@ field_columns = (2, 3) ∷ (5, 12) ∷ (15, 22) ∷ (25, 36) ∷ (40, 47) ∷ (5
 abbrev pub data_fields : List ℕ → List (List ℕ)
 data_fields text = map (λ (ends : ℕ × ℕ). trimmed (bytes_in text ends.0 ends.1)) field_columns
 
-abbrev pub section_fields : List ℕ → List (List ℕ)
-section_fields text = take_while (λ c. not (is_blank c)) text ∷ [] ∷ trimmed (bytes_in text 15 22) ∷ [] ∷ [] ∷ [] ∷ []
-
 -- a field of a card, counted from 1
 abbrev pub field_of : List (List ℕ) → ℕ → List ℕ
 field_of fields number = slice_index_or fields (number - 1) []
+
+abbrev pub section_fields : List ℕ → List (List ℕ)
+section_fields text = take_while (λ c. not (is_blank c)) text ∷ field_of (words_of text) 2 ∷ trimmed (bytes_in text 15 22) ∷ [] ∷ [] ∷ [] ∷ []
 
 -- a comment or a line of blanks
 abbrev pub is_ignored : List ℕ → Bool

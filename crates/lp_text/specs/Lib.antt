@@ -1,5 +1,7 @@
 pub mod Lines
 pub mod Cards
+pub mod FreeCards
+pub mod Senses
 pub mod Digits
 pub mod Fraction
 pub mod Limits

@@ -18,6 +18,14 @@ entry_limit = 100000
 abbrev pub byte_limit : ℕ
 byte_limit = 16777216
 
+-- bytes of a line in free form, without its line feed
+abbrev pub free_line_limit : ℕ
+free_line_limit = 255
+
+-- bytes of a token in free form
+abbrev pub token_limit : ℕ
+token_limit = 64
+
 -- ── a report ──
 
 -- bytes of a report: 32 MiB

@@ -5,9 +5,8 @@ use Rattle.std.specs.Prelude.{◌&&◌, ◌||◌, if◌then◌else◌, nat_eq, n
 use Rattle.std.specs.Str.{bytes_eq}
 use Rattle.std.proofs.lemmas.Bool.{and_parts}
 use Rattle.std.proofs.lemmas.Bool.Decides.{nat_tests}
-use Rattle.std.proofs.lemmas.Bool.Decides.{nat_tests}
 use Rattle.clap.specs.Lexer.{long_of, short_of}
-use Rattle.clap.specs.Walk.{Held, Row, Rule, Text, Walk, after_step, idle, long_or_other, next, option, settled_rows, short_or_plain, trailing, used}
+use Rattle.clap.specs.Walk.{Held, Row, Rule, Text, Walk, after_step, has_row, idle, long_or_other, next, option, settled_rows, short_or_plain, trailing, used}
 use Rattle.clap.specs.Walk.{walked, word_met}
 use Rattle.clap.specs.Simple.{Shape, built}
 use Rattle.clap.specs.Takes.{bundle_passes, flag_word_passes, settle_passes, step_passes, turn_passes, word_passes}
@@ -18,8 +17,8 @@ use Rattle.lp_words.specs.declared.setting.Setting.{Setting}
 use Rattle.lp_words.specs.declared.setting.Setting.TheVariants.{Workers, Reinverters, Budget, Report, Log, Free}
 use Rattle.lp_words.specs.Inner.{option_app}
 use Rattle.lp_words.specs.Words.{is_number, number_from_to, with}
-use Rattle.lp_words.proofs.Rows.{flag_rule, no_row, number_rule, used_flag, used_number}
-use Rattle.lp_words.proofs.Agreement.{Agrees, IsTextOf, renews}
+use Rattle.lp_words.proofs.Rows.{flag_rule, no_row, number_row, number_rule, row_at, used_flag, used_number}
+use Rattle.lp_words.proofs.Agreement.{Agrees, IsTextOf, name_of, renews, row_of}
 
 abbrev pub shape : Shape
 shape = (built option_app).top
@@ -86,7 +85,7 @@ value_parts : (b : Bool) (v n : ℕ) → cond b (Some v) None ≡ Some n → b �
 value_parts true v n e = refl
 value_parts false v n e = cc
 
-pub starts_with_digit : (least most : ℕ) (text : Text) (n : ℕ) → number_from_to least most text ≡ Some n
+starts_with_digit : (least most : ℕ) (text : Text) (n : ℕ) → number_from_to least most text ≡ Some n
     → (d : ℕ) × (ds : Text) × (text ≡ d ∷ ds) × (nat_eq d 45 ≡ false)
 starts_with_digit least most [] n e = cc
 starts_with_digit least most (d ∷ ds) n e =
@@ -95,254 +94,141 @@ starts_with_digit least most (d ∷ ds) n e =
     let digits = (and_parts _ _ number_is).1 in
     (d, ds, refl, not_hyphen d (and_parts _ _ digits).0)
 
-pub joined_workers : (given more : Given) (n : ℕ) (text : Text) (rows : List Row) (p : Option (Text × List Text)) → with given (Workers n) ≡ Some more
-    → number_from_to 0 64 text ≡ Some n → Agrees given (settled_rows rules_built p rows)
-    → settle_passes rules_built false (held rows p) ≡ true → Between more (walked rules_built [] (at rows p) (codes "--workers=" ++ text))
-    × (turn_passes shape [] (at rows p) (codes "--workers=" ++ text) ≡ true)
+-- the text of a number begins with a digit
+pub starts_plain : (s : Setting) (text : Text) → IsTextOf s text → IsNumbered s → (d : ℕ) × (ds : Text) × (text ≡ d ∷ ds) × (nat_eq d 45 ≡ false)
+starts_plain (Workers n) text spelled numbered_is = starts_with_digit 0 64 text n spelled
+starts_plain (Reinverters n) text spelled numbered_is = starts_with_digit 0 8 text n spelled
+starts_plain (Budget n) text spelled numbered_is = starts_with_digit 0 1000000 text n spelled
+starts_plain (Report n) text spelled numbered_is = starts_with_digit 1 2 text n spelled
+starts_plain Log text spelled numbered_is = absurd numbered_is
+starts_plain Free text spelled numbered_is = absurd numbered_is
+
+-- ── an option with a number ──
+
+abbrev asked : Text → List Row → Held
+asked name rows = record { rows = rows; pending = Some (name, []); skip = 0 }
+
+-- after the word of an option, whose number is the next word
+abbrev asks : Text → List Row → Walk
+asks name rows = record { held = asked name rows; waiting = option name; position = 1; is_trailing = false; stopped = None }
+
+-- what the parser makes of an option's words
+pub record IsParsed (s : Setting) : Type 0 where
+  pub row_is : (text : Text) → row_of s text ≡ number_row (name_of s) text
+  pub joined : (rows : List Row) (p : Option (Text × List Text)) (text : Text)
+      → walked rules_built [] (at rows p) (dashed s ++ 61 ∷ text) ≡ at (used (number_rule (name_of s)) (text ∷ []) (settled_rows rules_built p rows)) None
+  pub joined_passes : (rows : List Row) (p : Option (Text × List Text)) (text : Text) → settle_passes rules_built false (held rows p) ≡ true
+      → has_row (name_of s) (settled_rows rules_built p rows) ≡ false → turn_passes shape [] (at rows p) (dashed s ++ 61 ∷ text) ≡ true
+  pub alone : (rows : List Row) (p : Option (Text × List Text)) → walked rules_built [] (at rows p) (dashed s) ≡ asks (name_of s) (settled_rows rules_built p rows)
+  pub alone_passes : (rows : List Row) (p : Option (Text × List Text)) → settle_passes rules_built false (held rows p) ≡ true
+      → turn_passes shape [] (at rows p) (dashed s) ≡ true
+  pub number : (rows : List Row) (word : Text)
+      → short_or_plain rules_built (option (name_of s)) word None (asked (name_of s) rows) ≡ (held rows (Some (name_of s, word ∷ [])), next idle)
+  pub settles : (rows : List Row) (word : Text) → settled_rows rules_built (Some (name_of s, word ∷ [])) rows ≡ used (number_rule (name_of s)) (word ∷ []) rows
+  pub settle : (rows : List Row) (word : Text) → has_row (name_of s) rows ≡ false → settle_passes rules_built false (held rows (Some (name_of s, word ∷ []))) ≡ true
+
+pub parsed : (s : Setting) → IsNumbered s → IsParsed s
 unfolding clap_on_literals
-joined_workers given more n text rows p e spelled old passes =
-    let all = settled_rows rules_built p rows in
-    let new = renews given more (Workers n) text all e spelled old in
-    let absent = no_row (codes "workers") all new.absent in (
-      record {
-        rows = used (number_rule (codes "workers")) (text ∷ []) all;
-        pending = None;
-        is = refl;
-        agrees = subst (λ (l : List Row). Agrees more l) (sym (used_number (codes "workers") text all new.absent)) new.agrees;
-        passes = refl;
-      },
-      rw (passes, absent) refl,
-    )
+parsed (Workers n) numbered_is = record {
+  row_is = λ text. refl;
+  joined = λ rows p text. refl;
+  joined_passes = λ rows p text passes absent. rw (passes, absent) refl;
+  alone = λ rows p. refl;
+  alone_passes = λ rows p passes. rw passes refl;
+  number = λ rows word. refl;
+  settles = λ rows word. refl;
+  settle = λ rows word absent. rw absent refl;
+}
+parsed (Reinverters n) numbered_is = record {
+  row_is = λ text. refl;
+  joined = λ rows p text. refl;
+  joined_passes = λ rows p text passes absent. rw (passes, absent) refl;
+  alone = λ rows p. refl;
+  alone_passes = λ rows p passes. rw passes refl;
+  number = λ rows word. refl;
+  settles = λ rows word. refl;
+  settle = λ rows word absent. rw absent refl;
+}
+parsed (Budget n) numbered_is = record {
+  row_is = λ text. refl;
+  joined = λ rows p text. refl;
+  joined_passes = λ rows p text passes absent. rw (passes, absent) refl;
+  alone = λ rows p. refl;
+  alone_passes = λ rows p passes. rw passes refl;
+  number = λ rows word. refl;
+  settles = λ rows word. refl;
+  settle = λ rows word absent. rw absent refl;
+}
+parsed (Report n) numbered_is = record {
+  row_is = λ text. refl;
+  joined = λ rows p text. refl;
+  joined_passes = λ rows p text passes absent. rw (passes, absent) refl;
+  alone = λ rows p. refl;
+  alone_passes = λ rows p passes. rw passes refl;
+  number = λ rows word. refl;
+  settles = λ rows word. refl;
+  settle = λ rows word absent. rw absent refl;
+}
+parsed Log numbered_is = absurd numbered_is
+parsed Free numbered_is = absurd numbered_is
 
-abbrev asked_workers : List Row → Held
-asked_workers rows = record { rows = rows; pending = Some (codes "workers", []); skip = 0 }
+module _ (s : Setting) (of : IsParsed s) where
+  abbrev name : Text
+  name = name_of s
 
-abbrev asks_workers : List Row → Walk
-asks_workers rows = record { held = asked_workers rows; waiting = option (codes "workers"); position = 1; is_trailing = false; stopped = None }
+  -- the word of the number, after that of the option
+  met : (rows : List Row) (word : Text) → IsPlainWord word
+      → word_met rules_built [] false (option name) 1 word (asked name rows) ≡ (held rows (Some (name, word ∷ [])), next idle)
+  met rows word plain =
+      ap (λ b. if b then (asked name rows, trailing 1) else long_or_other rules_built (option name) word (long_of word) (asked name rows)) plain.no_end
+      ∙ ap (λ l. long_or_other rules_built (option name) word l (asked name rows)) plain.no_long
+      ∙ ap (λ flags. short_or_plain rules_built (option name) word flags (asked name rows)) plain.no_short ∙ of.number rows word
 
-met_workers : (rows : List Row) (word : Text) → IsPlainWord word
-    → word_met rules_built [] false (option (codes "workers")) 1 word (asked_workers rows) ≡ (held rows (Some (codes "workers", word ∷ [])), next idle)
-met_workers rows word plain =
-    ap (λ b. if b then (asked_workers rows, trailing 1) else long_or_other rules_built (option (codes "workers")) word (long_of word) (asked_workers rows))
-    plain.no_end
-    ∙ ap (λ l. long_or_other rules_built (option (codes "workers")) word l (asked_workers rows)) plain.no_long
-    ∙ ap (λ s. short_or_plain rules_built (option (codes "workers")) word s (asked_workers rows)) plain.no_short
+  number_passes : (rows : List Row) (word : Text) → IsPlainWord word → turn_passes shape [] (asks name rows) word ≡ true
+  number_passes rows word plain =
+      ap (λ m. word_passes shape [] false (option name) word (asked name rows) && step_passes shape 1 m.0 m.1) (met rows word plain)
+      ∙ ap (λ b. (b || flag_word_passes rules_built false (long_of word) word (asked name rows)) && true) plain.no_end
+      ∙ ap (λ l. flag_word_passes rules_built false l word (asked name rows) && true) plain.no_long
+      ∙ ap (λ o. option_map_or (λ flags. bundle_passes rules_built false flags (asked name rows)) o true && true) plain.no_short
 
-number_passes_workers : (rows : List Row) (word : Text) → IsPlainWord word → turn_passes shape [] (asks_workers rows) word ≡ true
-number_passes_workers rows word plain =
-    ap (λ m. word_passes shape [] false (option (codes "workers")) word (asked_workers rows) && step_passes shape 1 m.0 m.1) (met_workers rows word plain)
-    ∙ ap (λ b. (b || flag_word_passes rules_built false (long_of word) word (asked_workers rows)) && true) plain.no_end
-    ∙ ap (λ l. flag_word_passes rules_built false l word (asked_workers rows) && true) plain.no_long
-    ∙ ap (λ s. option_map_or (λ flags. bundle_passes rules_built false flags (asked_workers rows)) s true && true) plain.no_short
+  module _ (given more : Given) (rows : List Row) (p : Option (Text × List Text)) (taken : with given s ≡ Some more)
+      (old : Agrees given (settled_rows rules_built p rows)) (passes : settle_passes rules_built false (held rows p) ≡ true) where
+    abbrev all : List Row
+    all = settled_rows rules_built p rows
 
-pub apart_workers : (given more : Given) (n d : ℕ) (ds : Text) (rows : List Row) (p : Option (Text × List Text)) → nat_eq d 45 ≡ false
-    → with given (Workers n) ≡ Some more → number_from_to 0 64 (d ∷ ds) ≡ Some n
-    → Agrees given (settled_rows rules_built p rows) → settle_passes rules_built false (held rows p) ≡ true
-    → After more (at rows p) (codes "--workers") (d ∷ ds)
-unfolding clap_on_literals
-apart_workers given more n d ds rows p differ e spelled old passes =
-    let all = settled_rows rules_built p rows in
-    let new = renews given more (Workers n) (d ∷ ds) all e spelled old in
-    let absent = no_row (codes "workers") all new.absent in
-    let plain = plain_word_is d ds differ in
-    record {
-      between = record {
-        rows = all;
-        pending = Some (codes "workers", (d ∷ ds) ∷ []);
-        is = ap (λ m. after_step rules_built (d ∷ ds) (asks_workers all) m.0 m.1) (met_workers all (d ∷ ds) plain);
-        agrees = subst (λ (l : List Row). Agrees more l) (sym (used_number (codes "workers") (d ∷ ds) all new.absent)) new.agrees;
-        passes = rw absent refl;
-      };
-      first = rw passes refl;
-      second = number_passes_workers all (d ∷ ds) plain;
-    }
+    -- the option is new, and its number agrees once it stands
+    renewed : (text : Text) → IsTextOf s text → (row_at name all ≡ None) × Agrees more (used (number_rule name) (text ∷ []) all)
+    renewed text spelled =
+        let new = renews given more s text all taken spelled old in
+        (new.absent, subst (λ (l : List Row). Agrees more l) (ap (λ r. all ++ r ∷ []) (of.row_is text) ∙ sym (used_number name text all new.absent)) new.agrees)
 
-pub joined_reinverters : (given more : Given) (n : ℕ) (text : Text) (rows : List Row) (p : Option (Text × List Text))
-    → with given (Reinverters n) ≡ Some more → number_from_to 0 8 text ≡ Some n → Agrees given (settled_rows rules_built p rows)
-    → settle_passes rules_built false (held rows p) ≡ true → Between more (walked rules_built [] (at rows p) (codes "--reinverters=" ++ text))
-    × (turn_passes shape [] (at rows p) (codes "--reinverters=" ++ text) ≡ true)
-unfolding clap_on_literals
-joined_reinverters given more n text rows p e spelled old passes =
-    let all = settled_rows rules_built p rows in
-    let new = renews given more (Reinverters n) text all e spelled old in
-    let absent = no_row (codes "reinverters") all new.absent in (
-      record {
-        rows = used (number_rule (codes "reinverters")) (text ∷ []) all;
-        pending = None;
-        is = refl;
-        agrees = subst (λ (l : List Row). Agrees more l) (sym (used_number (codes "reinverters") text all new.absent)) new.agrees;
-        passes = refl;
-      },
-      rw (passes, absent) refl,
-    )
+    pub joined_number : (text : Text) → IsTextOf s text
+        → Between more (walked rules_built [] (at rows p) (dashed s ++ 61 ∷ text)) × (turn_passes shape [] (at rows p) (dashed s ++ 61 ∷ text) ≡ true)
+    joined_number text spelled =
+        let new = renewed text spelled in (
+          record { rows = used (number_rule name) (text ∷ []) all; pending = None; is = of.joined rows p text; agrees = new.1; passes = refl },
+          of.joined_passes rows p text passes (no_row name all new.0),
+        )
 
-abbrev asked_reinverters : List Row → Held
-asked_reinverters rows = record { rows = rows; pending = Some (codes "reinverters", []); skip = 0 }
+    pub number_apart : (d : ℕ) (ds : Text) → nat_eq d 45 ≡ false → IsTextOf s (d ∷ ds) → After more (at rows p) (dashed s) (d ∷ ds)
+    unfolding clap_on_literals
+    number_apart d ds differ spelled =
+        let new = renewed (d ∷ ds) spelled in
+        let plain = plain_word_is d ds differ in
+        let alone = of.alone rows p in
+        record {
+          between = record {
+            rows = all;
+            pending = Some (name, (d ∷ ds) ∷ []);
+            is = ap (λ w. walked rules_built [] w (d ∷ ds)) alone ∙ ap (λ m. after_step rules_built (d ∷ ds) (asks name all) m.0 m.1) (met all (d ∷ ds) plain);
+            agrees = subst (λ (l : List Row). Agrees more l) (sym (of.settles all (d ∷ ds))) new.1;
+            passes = of.settle all (d ∷ ds) (no_row name all new.0);
+          };
+          first = of.alone_passes rows p passes;
+          second = subst (λ w. turn_passes shape [] w (d ∷ ds) ≡ true) (sym alone) (number_passes all (d ∷ ds) plain);
+        }
 
-abbrev asks_reinverters : List Row → Walk
-asks_reinverters rows = record { held = asked_reinverters rows; waiting = option (codes "reinverters"); position = 1; is_trailing = false; stopped = None }
-
-met_reinverters : (rows : List Row) (word : Text) → IsPlainWord word
-    → word_met rules_built [] false (option (codes "reinverters")) 1 word
-    (asked_reinverters rows) ≡ (held rows (Some (codes "reinverters", word ∷ [])), next idle)
-met_reinverters rows word plain =
-    ap (λ b. if b then (asked_reinverters rows, trailing 1) else long_or_other rules_built (option (codes "reinverters")) word (long_of word)
-    (asked_reinverters rows))
-    plain.no_end
-    ∙ ap (λ l. long_or_other rules_built (option (codes "reinverters")) word l (asked_reinverters rows)) plain.no_long
-    ∙ ap (λ s. short_or_plain rules_built (option (codes "reinverters")) word s (asked_reinverters rows)) plain.no_short
-
-number_passes_reinverters : (rows : List Row) (word : Text) → IsPlainWord word → turn_passes shape [] (asks_reinverters rows) word ≡ true
-number_passes_reinverters rows word plain =
-    ap (λ m. word_passes shape [] false (option (codes "reinverters")) word
-    (asked_reinverters rows) && step_passes shape 1 m.0 m.1) (met_reinverters rows word plain)
-    ∙ ap (λ b. (b || flag_word_passes rules_built false (long_of word) word (asked_reinverters rows)) && true) plain.no_end
-    ∙ ap (λ l. flag_word_passes rules_built false l word (asked_reinverters rows) && true) plain.no_long
-    ∙ ap (λ s. option_map_or (λ flags. bundle_passes rules_built false flags (asked_reinverters rows)) s true && true) plain.no_short
-
-pub apart_reinverters : (given more : Given) (n d : ℕ) (ds : Text) (rows : List Row) (p : Option (Text × List Text)) → nat_eq d 45 ≡ false
-    → with given (Reinverters n) ≡ Some more → number_from_to 0 8 (d ∷ ds) ≡ Some n
-    → Agrees given (settled_rows rules_built p rows) → settle_passes rules_built false (held rows p) ≡ true
-    → After more (at rows p) (codes "--reinverters") (d ∷ ds)
-unfolding clap_on_literals
-apart_reinverters given more n d ds rows p differ e spelled old passes =
-    let all = settled_rows rules_built p rows in
-    let new = renews given more (Reinverters n) (d ∷ ds) all e spelled old in
-    let absent = no_row (codes "reinverters") all new.absent in
-    let plain = plain_word_is d ds differ in
-    record {
-      between = record {
-        rows = all;
-        pending = Some (codes "reinverters", (d ∷ ds) ∷ []);
-        is = ap (λ m. after_step rules_built (d ∷ ds) (asks_reinverters all) m.0 m.1) (met_reinverters all (d ∷ ds) plain);
-        agrees = subst (λ (l : List Row). Agrees more l) (sym (used_number (codes "reinverters") (d ∷ ds) all new.absent)) new.agrees;
-        passes = rw absent refl;
-      };
-      first = rw passes refl;
-      second = number_passes_reinverters all (d ∷ ds) plain;
-    }
-
-pub joined_budget : (given more : Given) (n : ℕ) (text : Text) (rows : List Row) (p : Option (Text × List Text)) → with given (Budget n) ≡ Some more
-    → number_from_to 0 1000000 text ≡ Some n → Agrees given (settled_rows rules_built p rows)
-    → settle_passes rules_built false (held rows p) ≡ true → Between more (walked rules_built [] (at rows p) (codes "--budget=" ++ text))
-    × (turn_passes shape [] (at rows p) (codes "--budget=" ++ text) ≡ true)
-unfolding clap_on_literals
-joined_budget given more n text rows p e spelled old passes =
-    let all = settled_rows rules_built p rows in
-    let new = renews given more (Budget n) text all e spelled old in
-    let absent = no_row (codes "budget") all new.absent in (
-      record {
-        rows = used (number_rule (codes "budget")) (text ∷ []) all;
-        pending = None;
-        is = refl;
-        agrees = subst (λ (l : List Row). Agrees more l) (sym (used_number (codes "budget") text all new.absent)) new.agrees;
-        passes = refl;
-      },
-      rw (passes, absent) refl,
-    )
-
-abbrev asked_budget : List Row → Held
-asked_budget rows = record { rows = rows; pending = Some (codes "budget", []); skip = 0 }
-
-abbrev asks_budget : List Row → Walk
-asks_budget rows = record { held = asked_budget rows; waiting = option (codes "budget"); position = 1; is_trailing = false; stopped = None }
-
-met_budget : (rows : List Row) (word : Text) → IsPlainWord word
-    → word_met rules_built [] false (option (codes "budget")) 1 word (asked_budget rows) ≡ (held rows (Some (codes "budget", word ∷ [])), next idle)
-met_budget rows word plain =
-    ap (λ b. if b then (asked_budget rows, trailing 1) else long_or_other rules_built (option (codes "budget")) word (long_of word) (asked_budget rows))
-    plain.no_end
-    ∙ ap (λ l. long_or_other rules_built (option (codes "budget")) word l (asked_budget rows)) plain.no_long
-    ∙ ap (λ s. short_or_plain rules_built (option (codes "budget")) word s (asked_budget rows)) plain.no_short
-
-number_passes_budget : (rows : List Row) (word : Text) → IsPlainWord word → turn_passes shape [] (asks_budget rows) word ≡ true
-number_passes_budget rows word plain =
-    ap (λ m. word_passes shape [] false (option (codes "budget")) word (asked_budget rows) && step_passes shape 1 m.0 m.1) (met_budget rows word plain)
-    ∙ ap (λ b. (b || flag_word_passes rules_built false (long_of word) word (asked_budget rows)) && true) plain.no_end
-    ∙ ap (λ l. flag_word_passes rules_built false l word (asked_budget rows) && true) plain.no_long
-    ∙ ap (λ s. option_map_or (λ flags. bundle_passes rules_built false flags (asked_budget rows)) s true && true) plain.no_short
-
-pub apart_budget : (given more : Given) (n d : ℕ) (ds : Text) (rows : List Row) (p : Option (Text × List Text)) → nat_eq d 45 ≡ false
-    → with given (Budget n) ≡ Some more → number_from_to 0 1000000 (d ∷ ds) ≡ Some n
-    → Agrees given (settled_rows rules_built p rows) → settle_passes rules_built false (held rows p) ≡ true → After more (at rows p) (codes "--budget") (d ∷ ds)
-unfolding clap_on_literals
-apart_budget given more n d ds rows p differ e spelled old passes =
-    let all = settled_rows rules_built p rows in
-    let new = renews given more (Budget n) (d ∷ ds) all e spelled old in
-    let absent = no_row (codes "budget") all new.absent in
-    let plain = plain_word_is d ds differ in
-    record {
-      between = record {
-        rows = all;
-        pending = Some (codes "budget", (d ∷ ds) ∷ []);
-        is = ap (λ m. after_step rules_built (d ∷ ds) (asks_budget all) m.0 m.1) (met_budget all (d ∷ ds) plain);
-        agrees = subst (λ (l : List Row). Agrees more l) (sym (used_number (codes "budget") (d ∷ ds) all new.absent)) new.agrees;
-        passes = rw absent refl;
-      };
-      first = rw passes refl;
-      second = number_passes_budget all (d ∷ ds) plain;
-    }
-
-pub joined_report : (given more : Given) (n : ℕ) (text : Text) (rows : List Row) (p : Option (Text × List Text)) → with given (Report n) ≡ Some more
-    → number_from_to 1 2 text ≡ Some n → Agrees given (settled_rows rules_built p rows)
-    → settle_passes rules_built false (held rows p) ≡ true → Between more (walked rules_built [] (at rows p) (codes "--report=" ++ text))
-    × (turn_passes shape [] (at rows p) (codes "--report=" ++ text) ≡ true)
-unfolding clap_on_literals
-joined_report given more n text rows p e spelled old passes =
-    let all = settled_rows rules_built p rows in
-    let new = renews given more (Report n) text all e spelled old in
-    let absent = no_row (codes "report") all new.absent in (
-      record {
-        rows = used (number_rule (codes "report")) (text ∷ []) all;
-        pending = None;
-        is = refl;
-        agrees = subst (λ (l : List Row). Agrees more l) (sym (used_number (codes "report") text all new.absent)) new.agrees;
-        passes = refl;
-      },
-      rw (passes, absent) refl,
-    )
-
-abbrev asked_report : List Row → Held
-asked_report rows = record { rows = rows; pending = Some (codes "report", []); skip = 0 }
-
-abbrev asks_report : List Row → Walk
-asks_report rows = record { held = asked_report rows; waiting = option (codes "report"); position = 1; is_trailing = false; stopped = None }
-
-met_report : (rows : List Row) (word : Text) → IsPlainWord word
-    → word_met rules_built [] false (option (codes "report")) 1 word (asked_report rows) ≡ (held rows (Some (codes "report", word ∷ [])), next idle)
-met_report rows word plain =
-    ap (λ b. if b then (asked_report rows, trailing 1) else long_or_other rules_built (option (codes "report")) word (long_of word) (asked_report rows))
-    plain.no_end
-    ∙ ap (λ l. long_or_other rules_built (option (codes "report")) word l (asked_report rows)) plain.no_long
-    ∙ ap (λ s. short_or_plain rules_built (option (codes "report")) word s (asked_report rows)) plain.no_short
-
-number_passes_report : (rows : List Row) (word : Text) → IsPlainWord word → turn_passes shape [] (asks_report rows) word ≡ true
-number_passes_report rows word plain =
-    ap (λ m. word_passes shape [] false (option (codes "report")) word (asked_report rows) && step_passes shape 1 m.0 m.1) (met_report rows word plain)
-    ∙ ap (λ b. (b || flag_word_passes rules_built false (long_of word) word (asked_report rows)) && true) plain.no_end
-    ∙ ap (λ l. flag_word_passes rules_built false l word (asked_report rows) && true) plain.no_long
-    ∙ ap (λ s. option_map_or (λ flags. bundle_passes rules_built false flags (asked_report rows)) s true && true) plain.no_short
-
-pub apart_report : (given more : Given) (n d : ℕ) (ds : Text) (rows : List Row) (p : Option (Text × List Text)) → nat_eq d 45 ≡ false
-    → with given (Report n) ≡ Some more → number_from_to 1 2 (d ∷ ds) ≡ Some n
-    → Agrees given (settled_rows rules_built p rows) → settle_passes rules_built false (held rows p) ≡ true → After more (at rows p) (codes "--report") (d ∷ ds)
-unfolding clap_on_literals
-apart_report given more n d ds rows p differ e spelled old passes =
-    let all = settled_rows rules_built p rows in
-    let new = renews given more (Report n) (d ∷ ds) all e spelled old in
-    let absent = no_row (codes "report") all new.absent in
-    let plain = plain_word_is d ds differ in
-    record {
-      between = record {
-        rows = all;
-        pending = Some (codes "report", (d ∷ ds) ∷ []);
-        is = ap (λ m. after_step rules_built (d ∷ ds) (asks_report all) m.0 m.1) (met_report all (d ∷ ds) plain);
-        agrees = subst (λ (l : List Row). Agrees more l) (sym (used_number (codes "report") (d ∷ ds) all new.absent)) new.agrees;
-        passes = rw absent refl;
-      };
-      first = rw passes refl;
-      second = number_passes_report all (d ∷ ds) plain;
-    }
+-- ── a flag ──
 
 pub flag_log : (given more : Given) (rows : List Row) (p : Option (Text × List Text)) → with given Log ≡ Some more
     → Agrees given (settled_rows rules_built p rows)

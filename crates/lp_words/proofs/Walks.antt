@@ -15,9 +15,8 @@ use Rattle.lp_words.specs.declared.setting.Setting.{Setting}
 use Rattle.lp_words.specs.declared.setting.Setting.TheVariants.{Workers, Reinverters, Budget, Report, Log, Free}
 use Rattle.lp_words.specs.Words.{followed_by, number_from_to, numbered, settings_of, single, takes_number, with, with_all}
 use Rattle.lp_words.proofs.Agreement.{Agrees, IsTextOf}
-use Rattle.lp_words.proofs.Steps.{After, Between, IsNumberOf, IsNumbered, at, held, rules_built, shape, starts_with_digit, apart_workers}
-use Rattle.lp_words.proofs.Steps.{apart_reinverters, apart_budget, apart_report, joined_workers, joined_reinverters, joined_budget, joined_report}
-use Rattle.lp_words.proofs.Steps.{flag_log, flag_free}
+use Rattle.lp_words.proofs.Steps.{After, Between, IsNumberOf, at, dashed, flag_free, flag_log, held, joined_number, number_apart, parsed, rules_built, shape}
+use Rattle.lp_words.proofs.Steps.{starts_plain}
 
 same : (a b : Text) → bytes_eq a b ≡ true → a ≡ b
 same a b e = (bytes_eq-Decides a b).0 e
@@ -65,14 +64,6 @@ Steps given rows p s word = (more : Given) → with given s ≡ Some more → Be
 abbrev StepsApart : Given → List Row → Option (Text × List Text) → Setting → Text → Text → Type 0
 StepsApart given rows p s name text = (more : Given) → with given s ≡ Some more → After more (at rows p) name text
 
-text_nonempty : (s : Setting) (text : Text) → IsTextOf s text → IsNumbered s → (d : ℕ) × (ds : Text) × (text ≡ d ∷ ds)
-text_nonempty (Workers n) text e numbered_is = let (d, ds, text_is, differ) = starts_with_digit 0 64 text n e in (d, ds, text_is)
-text_nonempty (Reinverters n) text e numbered_is = let (d, ds, text_is, differ) = starts_with_digit 0 8 text n e in (d, ds, text_is)
-text_nonempty (Budget n) text e numbered_is = let (d, ds, text_is, differ) = starts_with_digit 0 1000000 text n e in (d, ds, text_is)
-text_nonempty (Report n) text e numbered_is = let (d, ds, text_is, differ) = starts_with_digit 1 2 text n e in (d, ds, text_is)
-text_nonempty Log text e numbered_is = absurd numbered_is
-text_nonempty Free text e numbered_is = absurd numbered_is
-
 equals_61 : (c : ℕ) → (c == 61) ≡ true → c ≡ 61
 equals_61 c e = grind (arith, nat_tests)
 
@@ -87,44 +78,15 @@ joined_word word d ds e =
 module _ (given : Given) (rows : List Row) (p : Option (Text × List Text))
     (old : Agrees given (settled_rows rules_built p rows)) (passes : settle_passes rules_built false (held rows p) ≡ true) where
   joined_step : (s : Setting) (name text : Text) → IsNumberOf s name text → Steps given rows p s (name ++ 61 ∷ text)
-  joined_step (Workers n) name text of = subst (λ (x : Text). Steps given rows p (Workers n) (x ++ 61 ∷ text)) (sym of.name_is)
-      (λ more e. joined_workers given more n text rows p e of.text_is old passes)
-  joined_step (Reinverters n) name text of = subst (λ (x : Text). Steps given rows p (Reinverters n) (x ++ 61 ∷ text)) (sym of.name_is)
-      (λ more e. joined_reinverters given more n text rows p e of.text_is old passes)
-  joined_step (Budget n) name text of = subst (λ (x : Text). Steps given rows p (Budget n) (x ++ 61 ∷ text)) (sym of.name_is)
-      (λ more e. joined_budget given more n text rows p e of.text_is old passes)
-  joined_step (Report n) name text of = subst (λ (x : Text). Steps given rows p (Report n) (x ++ 61 ∷ text)) (sym of.name_is)
-      (λ more e. joined_report given more n text rows p e of.text_is old passes)
-  joined_step Log name text of = absurd of.numbered_is
-  joined_step Free name text of = absurd of.numbered_is
+  joined_step s name text of = subst (λ (x : Text). Steps given rows p s (x ++ 61 ∷ text)) (sym of.name_is)
+      (λ more e. joined_number s (parsed s of.numbered_is) given more rows p e old passes text of.text_is)
 
   apart_step : (s : Setting) (name text : Text) → IsNumberOf s name text → StepsApart given rows p s name text
-  apart_step (Workers n) name text of =
-      let (d, ds, text_is, differ) = starts_with_digit 0 64 text n of.text_is in
-      let spelled : number_from_to 0 64 (d ∷ ds) ≡ Some n = subst (λ (x : Text). number_from_to 0 64 x ≡ Some n) text_is of.text_is in
-      let here : StepsApart given rows p (Workers n) (codes "--workers") (d ∷ ds) = λ more e. apart_workers given more n d ds rows p differ e spelled old passes in
-      subst (λ (x : Text). StepsApart given rows p (Workers n) x text) (sym of.name_is)
-      (subst (λ (x : Text). StepsApart given rows p (Workers n) (codes "--workers") x) (sym text_is) here)
-  apart_step (Reinverters n) name text of =
-      let (d, ds, text_is, differ) = starts_with_digit 0 8 text n of.text_is in
-      let spelled : number_from_to 0 8 (d ∷ ds) ≡ Some n = subst (λ (x : Text). number_from_to 0 8 x ≡ Some n) text_is of.text_is in
-      let here : StepsApart given rows p (Reinverters n) (codes "--reinverters") (d ∷ ds) = λ more e. apart_reinverters given more n d ds rows p differ e spelled old passes in
-      subst (λ (x : Text). StepsApart given rows p (Reinverters n) x text) (sym of.name_is)
-      (subst (λ (x : Text). StepsApart given rows p (Reinverters n) (codes "--reinverters") x) (sym text_is) here)
-  apart_step (Budget n) name text of =
-      let (d, ds, text_is, differ) = starts_with_digit 0 1000000 text n of.text_is in
-      let spelled : number_from_to 0 1000000 (d ∷ ds) ≡ Some n = subst (λ (x : Text). number_from_to 0 1000000 x ≡ Some n) text_is of.text_is in
-      let here : StepsApart given rows p (Budget n) (codes "--budget") (d ∷ ds) = λ more e. apart_budget given more n d ds rows p differ e spelled old passes in
-      subst (λ (x : Text). StepsApart given rows p (Budget n) x text) (sym of.name_is)
-      (subst (λ (x : Text). StepsApart given rows p (Budget n) (codes "--budget") x) (sym text_is) here)
-  apart_step (Report n) name text of =
-      let (d, ds, text_is, differ) = starts_with_digit 1 2 text n of.text_is in
-      let spelled : number_from_to 1 2 (d ∷ ds) ≡ Some n = subst (λ (x : Text). number_from_to 1 2 x ≡ Some n) text_is of.text_is in
-      let here : StepsApart given rows p (Report n) (codes "--report") (d ∷ ds) = λ more e. apart_report given more n d ds rows p differ e spelled old passes in
-      subst (λ (x : Text). StepsApart given rows p (Report n) x text) (sym of.name_is)
-      (subst (λ (x : Text). StepsApart given rows p (Report n) (codes "--report") x) (sym text_is) here)
-  apart_step Log name text of = absurd of.numbered_is
-  apart_step Free name text of = absurd of.numbered_is
+  apart_step s name text of =
+      let (d, ds, text_is, differ) = starts_plain s text of.text_is of.numbered_is in
+      let spelled : IsTextOf s (d ∷ ds) = subst (IsTextOf s) text_is of.text_is in
+      let here : StepsApart given rows p s (dashed s) (d ∷ ds) = λ more e. number_apart s (parsed s of.numbered_is) given more rows p e old passes d ds differ spelled in
+      subst (λ (x : Text). StepsApart given rows p s x text) (sym of.name_is) (subst (λ (x : Text). StepsApart given rows p s (dashed s) x) (sym text_is) here)
 
   single_step : (s : Setting) (word : Text) → single word ≡ Some s → Steps given rows p s word
   single_step s word e = elim (cases_Bool (bytes_eq word (codes "--log"))) [
@@ -141,7 +103,7 @@ module _ (given : Given) (rows : List Row) (p : Option (Text × List Text))
           let name = before_first (λ c. c == 61) word in
           let text = after_first (λ c. c == 61) word in
           let of = numbered_is name text s (rw (other, third) at e) in
-          let (d, ds, text_is) = text_nonempty s text of.text_is of.numbered_is in
+          let (d, ds, text_is, differ) = starts_plain s text of.text_is of.numbered_is in
           subst (λ (w : Text). Steps given rows p s w) (sym (joined_word word d ds text_is)) (joined_step s name text of)
     ]
   ]

@@ -3,3 +3,4 @@ pub mod PieceLemmas
 pub mod GatheringLemmas
 pub mod ColumnLemmas
 pub mod SplittingLemmas
+pub mod WordLemmas

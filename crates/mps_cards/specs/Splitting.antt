@@ -1,5 +1,5 @@
 -- What a line is split into: the card that it is.
-use Rattle.std.specs.Prelude.{◌≡◌, ℕ, List, take, Option, Some, None, Result, Ok, Err, Bool, true, false, if◌then◌else◌}
+use Rattle.std.specs.Prelude.{◌≡◌, ℕ, List, Option, Some, None, Result, Ok, Err, Bool, true, false, if◌then◌else◌}
 use Rattle.lp_text.specs.Cards.{Card as TextCard, without_return}
 use Rattle.lp_text.specs.declared.LineFault.{LineFault}
 use Rattle.mps_cards.specs.declared.cards.CardKind.{CardKind}
@@ -17,9 +17,9 @@ is_section kinds.Data = false
 abbrev pub text_card : Card → TextCard
 text_card card = record { is_section = is_section card.kind; fields = card.fields }
 
--- the columns of a line that count
-abbrev pub judged : Line → List ℕ
-judged line = take 61 (if line.longer then line.bytes else without_return line.bytes)
+-- the bytes of a line that are there, without a carriage return at the line's end
+abbrev pub kept_bytes : Line → List ℕ
+kept_bytes line = if line.longer then line.bytes else without_return line.bytes
 
 -- an answer to a line of this number says what the line is
 abbrev pub Says : ℕ → Result (Option TextCard) LineFault → Result (Option Card) CardFault → Type 0

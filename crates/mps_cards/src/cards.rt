@@ -3,6 +3,7 @@ ghost use Rattle.lp_text.specs.Cards.{bytes_in, data_fields, field_of, section_f
 ghost use Rattle.mps_cards.specs.Inner.FieldList.{field_list};
 
 use crate::columns::{bytes_between, first_word, trim};
+use crate::words::word_at;
 use lp_text::LineFault;
 use std::alloc::{AllocError, Global};
 use std::marker::Model;
@@ -53,8 +54,8 @@ impl From<AllocError> for CardFault {
 /// The six fields of a card, cut out of its text when they are asked for.
 ///
 /// Those of a card of data are columns 2 to 3, 5 to 12, 15 to 22, 25 to 36, 40 to 47 and 50 to 61, without the blanks
-/// around them. In the head of a section field 1 is its word, which runs to the first blank, field 3 is the text of columns
-/// 15 to 22, and the others are empty.
+/// around them. In the head of a section field 1 is its word, which runs to the first blank, field 2 is the next word, field 3
+/// is the text of columns 15 to 22, and the others are empty.
 #[derive(Debug, Drop)]
 pub struct Fields {
     text: Vec<u8>,
@@ -103,6 +104,7 @@ fn section_field(text: &[u8], field: usize) -> &[u8]
 {
     match field {
         1 => first_word(text),
+        2 => word_at(text, 1),
         3 => field_between(text, 15, 22),
         _ => &text[..0],
     }

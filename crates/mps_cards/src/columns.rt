@@ -3,12 +3,13 @@ ghost use Rattle.std.specs.List.{list_all, take_while};
 ghost use Rattle.lp_text.specs.Cards.{byte_in, bytes_in, filled_gap, is_blank, is_ignored, is_printable, trimmed};
 
 use crate::places::first_place;
+use crate::words::skip_blanks;
 
 /// The columns between the fields of a card of data.
 const GAPS: [u8; 10] = [4, 13, 14, 23, 24, 37, 38, 39, 48, 49];
 
 /// The byte in a column, a blank past the end.
-pub(crate) fn byte_at(text: &[u8], column: usize) -> u8
+pub fn byte_at(text: &[u8], column: usize) -> u8
     requires { 1 ≤ column }
     ensures { result ≡ byte_in text.now column }
 {
@@ -30,10 +31,7 @@ pub(crate) fn bytes_between(text: &[u8], first: usize, last: usize) -> &[u8]
 pub(crate) fn trim(text: &[u8]) -> &[u8]
     ensures { result.now ≡ trimmed text.now }
 {
-    let mut text = text;
-    'leading: while let [b' ', rest @ ..] = text {
-        text = rest;
-    }
+    let mut text = skip_blanks(text);
     'trailing: while let [rest @ .., b' '] = text {
         text = rest;
     }
@@ -49,7 +47,7 @@ pub(crate) fn first_word(text: &[u8]) -> &[u8]
 }
 
 /// Whether the text has nothing but blanks.
-fn has_only_blanks(text: &[u8]) -> bool
+pub fn has_only_blanks(text: &[u8]) -> bool
     ensures { result ≡ list_all is_blank text.now }
 {
     text.iter().all(|&c| c == b' ')
@@ -63,7 +61,7 @@ pub(crate) fn is_no_card(text: &[u8]) -> bool
 }
 
 /// Whether each byte of the text prints.
-pub(crate) fn prints(text: &[u8]) -> bool
+pub fn prints(text: &[u8]) -> bool
     ensures { result ≡ list_all is_printable text.now }
 {
     text.iter().all(|&c| 32 <= c && c <= 126)

@@ -32,10 +32,13 @@ mod line_reader;
 mod lines;
 mod places;
 mod splitting;
+mod words;
 
 pub use cards::{Card, CardFault, CardKind, Fields};
+pub use columns::{byte_at, has_only_blanks, prints};
 pub use faults::ReadFault;
 pub use line_reader::LineReader;
 pub use lines::{Line, LineBytes};
 pub use no_memory::Memory;
-pub use splitting::split;
+pub use splitting::{counted_columns, kept_bytes, split};
+pub use words::{split_word, word_at};

@@ -1,9 +1,9 @@
 ghost use Rattle.std.specs.Prelude.{◌≡◌, ◌≤◌, ℕ, IfOk, IfErr, IsTrue, length};
-ghost use Rattle.lp_text.specs.Cards.{card_in, card_of, without_return};
+ghost use Rattle.lp_text.specs.Cards.{card_in, card_of, counted, without_return};
 ghost use Rattle.lp_text.specs.Lines.{Line as TextLine};
 ghost use Rattle.mps_cards.specs.Inner.FieldList.{field_list};
 ghost use Rattle.mps_cards.specs.NextLine.{answered};
-ghost use Rattle.mps_cards.specs.Splitting.{Says, judged};
+ghost use Rattle.mps_cards.specs.Splitting.{Says, kept_bytes};
 
 use crate::cards::{Card, CardFault, CardKind, Fields};
 use crate::columns::{byte_at, first_filled_gap, is_no_card, prints};
@@ -28,18 +28,30 @@ pub fn split(alloc: Global, line: &Line) -> Result<Option<Card>, CardFault>
     ensures { (keep : ℕ) (whole : TextLine) → line.now ≡ answered line.now.number keep whole
         → Says line.now.number (card_of whole.bytes) result }
 {
-    split_text(alloc, judged_columns(line), line.number)
+    split_text(alloc, counted_columns(line), line.number)
 }
 
-/// The columns of a line that count.
-fn judged_columns(line: &Line) -> &[u8]
-    ensures { result.now ≡ judged line.now }
+/// The columns of a line that count: the first 61, without a carriage return at the line's end.
+///
+/// The line is one that a reader has answered, or could have, with 61 bytes of it kept or more.
+pub fn counted_columns(line: &Line) -> &[u8]
+    requires { IsTrue line.now.longer → 61 ≤ length line.now.bytes }
+    ensures { (keep : ℕ) (whole : TextLine) → line.now ≡ answered line.now.number keep whole → result.now ≡ counted whole.bytes }
 {
-    let mut text = line.bytes.bytes();
-    if !line.longer {
-        text = before_return(text);
-    }
+    let text = kept_bytes(line);
     &text[..COLUMNS.min(text.len())]
+}
+
+/// The bytes of a line that are there, without a carriage return at the line's end.
+pub fn kept_bytes(line: &Line) -> &[u8]
+    ensures { result.now ≡ kept_bytes line.now }
+{
+    let text = line.bytes.bytes();
+    if line.longer {
+        text
+    } else {
+        before_return(text)
+    }
 }
 
 /// The line without a carriage return at its end.

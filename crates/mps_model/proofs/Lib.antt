@@ -1,4 +1,5 @@
 mod WorkedNumbers
 mod WorkedDecks
 mod WorkedSections
+mod WorkedFree
 pub mod ReadingLemmas

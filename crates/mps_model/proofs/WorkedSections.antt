@@ -9,6 +9,7 @@ use Rattle.lp_model.specs.declared.RowKind.TheVariants.{G, E}
 use Rattle.lp_text.specs.Limits.{column_limit, entry_limit, row_limit}
 use Rattle.lp_text.specs.Lines.{text_of}
 use Rattle.lp_text.specs.declared.Counted.TheVariants as counted
+use Rattle.lp_text.specs.declared.Form.TheVariants.{Fixed}
 use Rattle.lp_text.specs.declared.LineFault.TheVariants as fault
 use Rattle.mps_model.specs.DeckSoFar.{no_cards}
 use Rattle.mps_model.specs.RowCards.{judge_row}
@@ -40,94 +41,94 @@ full_of_entries = record (new_deck [] (codes "COST")) { columns = record no_colu
 
 -- ── sections ──
 
-unknown_word : HasFault (text_of (codes "NAME          T" ∷ codes "Rows" ∷ [])) (in_line 2 fault.Section)
+unknown_word : HasFault Fixed (text_of (codes "NAME          T" ∷ codes "Rows" ∷ [])) (in_line 2 fault.Section)
 unfolding whole zero_ℚ ratio ◌*ℚ◌ eq_ℚ lt_ℚ le_ℚ neg_ℚ fits_width
 unknown_word = refl
 
 -- the title comes first or never
-title-second : HasFault (text_of (codes "ROWS" ∷ codes " N  COST" ∷ codes " L  R1" ∷ codes "NAME          T" ∷ [])) (in_line 4 fault.Section)
+title-second : HasFault Fixed (text_of (codes "ROWS" ∷ codes " N  COST" ∷ codes " L  R1" ∷ codes "NAME          T" ∷ [])) (in_line 4 fault.Section)
 unfolding whole zero_ℚ ratio ◌*ℚ◌ eq_ℚ lt_ℚ le_ℚ neg_ℚ fits_width
 title-second = refl
 
-rows-twice : HasFault (text_of (codes "ROWS" ∷ codes " N  COST" ∷ codes " L  R1" ∷ codes "ROWS" ∷ [])) (in_line 4 fault.Section)
+rows-twice : HasFault Fixed (text_of (codes "ROWS" ∷ codes " N  COST" ∷ codes " L  R1" ∷ codes "ROWS" ∷ [])) (in_line 4 fault.Section)
 unfolding whole zero_ℚ ratio ◌*ℚ◌ eq_ℚ lt_ℚ le_ℚ neg_ℚ fits_width
 rows-twice = refl
 
-columns-first : HasFault (text_of (codes "NAME          T" ∷ codes "COLUMNS" ∷ [])) (in_line 2 fault.Section)
+columns-first : HasFault Fixed (text_of (codes "NAME          T" ∷ codes "COLUMNS" ∷ [])) (in_line 2 fault.Section)
 unfolding whole zero_ℚ ratio ◌*ℚ◌ eq_ℚ lt_ℚ le_ℚ neg_ℚ fits_width
 columns-first = refl
 
-right_sides-early : HasFault (text_of (codes "ROWS" ∷ codes " N  COST" ∷ codes " L  R1" ∷ codes "RHS" ∷ [])) (in_line 4 fault.Section)
+right_sides-early : HasFault Fixed (text_of (codes "ROWS" ∷ codes " N  COST" ∷ codes " L  R1" ∷ codes "RHS" ∷ [])) (in_line 4 fault.Section)
 unfolding whole zero_ℚ ratio ◌*ℚ◌ eq_ℚ lt_ℚ le_ℚ neg_ℚ fits_width
 right_sides-early = refl
 
-ranges-twice : HasFault (text_of (codes "ROWS" ∷ codes " N  COST" ∷ codes " L  R1" ∷ codes "COLUMNS" ∷ codes "    X         COST      2" ∷ codes "RANGES" ∷
+ranges-twice : HasFault Fixed (text_of (codes "ROWS" ∷ codes " N  COST" ∷ codes " L  R1" ∷ codes "COLUMNS" ∷ codes "    X         COST      2" ∷ codes "RANGES" ∷
     codes "BOUNDS" ∷ codes "RANGES" ∷ [])) (in_line 8 fault.Section)
 unfolding whole zero_ℚ ratio ◌*ℚ◌ eq_ℚ lt_ℚ le_ℚ neg_ℚ fits_width
 ranges-twice = refl
 
-columns-twice : HasFault (text_of (codes "ROWS" ∷ codes " N  COST" ∷ codes " L  R1" ∷ codes "COLUMNS" ∷ codes "    X         COST      2" ∷ codes "COLUMNS" ∷ [])) (in_line 6 fault.Section)
+columns-twice : HasFault Fixed (text_of (codes "ROWS" ∷ codes " N  COST" ∷ codes " L  R1" ∷ codes "COLUMNS" ∷ codes "    X         COST      2" ∷ codes "COLUMNS" ∷ [])) (in_line 6 fault.Section)
 unfolding whole zero_ℚ ratio ◌*ℚ◌ eq_ℚ lt_ℚ le_ℚ neg_ℚ fits_width
 columns-twice = refl
 
 -- a deck without columns has their section
-finish-early : HasFault (text_of (codes "ROWS" ∷ codes " N  COST" ∷ codes " L  R1" ∷ codes "ENDATA" ∷ [])) (in_line 4 fault.Section)
+finish-early : HasFault Fixed (text_of (codes "ROWS" ∷ codes " N  COST" ∷ codes " L  R1" ∷ codes "ENDATA" ∷ [])) (in_line 4 fault.Section)
 unfolding whole zero_ℚ ratio ◌*ℚ◌ eq_ℚ lt_ℚ le_ℚ neg_ℚ fits_width
 finish-early = refl
 
 -- a card of data where no section admits one
-data-early : HasFault (text_of (codes "NAME          T" ∷ codes " N  COST" ∷ [])) (in_line 2 fault.Section)
+data-early : HasFault Fixed (text_of (codes "NAME          T" ∷ codes " N  COST" ∷ [])) (in_line 2 fault.Section)
 unfolding whole zero_ℚ ratio ◌*ℚ◌ eq_ℚ lt_ℚ le_ℚ neg_ℚ fits_width
 data-early = refl
 
 -- ── lines ──
 
 -- a comment of any bytes, a blank line, carriage returns, and a line past the end, which is not judged
-ignored : IsDeckOf ((42 ∷ 200 ∷ 10 ∷ 13 ∷ 10 ∷ []) ++ text_of (codes "ROWS" ∷ codes " N  COST" ∷ codes " L  R1" ∷ codes "COLUMNS" ∷ codes
+ignored : IsDeckOf Fixed ((42 ∷ 200 ∷ 10 ∷ 13 ∷ 10 ∷ []) ++ text_of (codes "ROWS" ∷ codes " N  COST" ∷ codes " L  R1" ∷ codes "COLUMNS" ∷ codes
     "    X         COST      2" ∷ []) ++ codes "ENDATA and more" ++ 13 ∷ 10 ∷ 200 ∷ []) (plain_deck) 8
 unfolding whole zero_ℚ ratio ◌*ℚ◌ eq_ℚ lt_ℚ le_ℚ neg_ℚ fits_width plain_deck
 ignored = refl
 
 -- the last line may lack its line feed
-unended : IsDeckOf (text_of (codes "ROWS" ∷ codes " N  COST" ∷ codes " L  R1" ∷ codes "COLUMNS" ∷ codes "    X         COST      2" ∷ []) ++ codes "ENDATA") plain_deck 6
+unended : IsDeckOf Fixed (text_of (codes "ROWS" ∷ codes " N  COST" ∷ codes " L  R1" ∷ codes "COLUMNS" ∷ codes "    X         COST      2" ∷ []) ++ codes "ENDATA") plain_deck 6
 unfolding whole zero_ℚ ratio ◌*ℚ◌ eq_ℚ lt_ℚ le_ℚ neg_ℚ fits_width plain_deck
 unended = refl
 
 -- a byte that does not print, before a column that is not blank
-order_in_line : HasFault (text_of (codes "NAME          T" ∷ (codes "  X" ++ 9 ∷ codes "") ∷ [])) (in_line 2 fault.NotAscii)
+order_in_line : HasFault Fixed (text_of (codes "NAME          T" ∷ (codes "  X" ++ 9 ∷ codes "") ∷ [])) (in_line 2 fault.NotAscii)
 unfolding whole zero_ℚ ratio ◌*ℚ◌ eq_ℚ lt_ℚ le_ℚ neg_ℚ fits_width
 order_in_line = refl
 
 -- a column that is not blank, before a section that admits no card
-columns-before : HasFault (text_of (codes "NAME          T" ∷ codes " N XCOST" ∷ [])) (in_line 2 (fault.Columns 4))
+columns-before : HasFault Fixed (text_of (codes "NAME          T" ∷ codes " N XCOST" ∷ [])) (in_line 2 (fault.Columns 4))
 unfolding whole zero_ℚ ratio ◌*ℚ◌ eq_ℚ lt_ℚ le_ℚ neg_ℚ fits_width
 columns-before = refl
 
 -- a line whose line feed is one byte too many
-bytes-limit : judge_line 16777212 no_cards (record { bytes = codes "ROWS"; is_ended = true }) ≡ Err (fault.Limit counted.Bytes)
+bytes-limit : judge_line Fixed 16777212 no_cards (record { bytes = codes "ROWS"; is_ended = true }) ≡ Err (fault.Limit counted.Bytes)
 bytes-limit = refl
 
 -- the same bytes without it
-bytes-limit-unended : judge_line 16777212 no_cards (record { bytes = codes "Rows"; is_ended = false }) ≡ Err fault.Section
+bytes-limit-unended : judge_line Fixed 16777212 no_cards (record { bytes = codes "Rows"; is_ended = false }) ≡ Err fault.Section
 bytes-limit-unended = refl
 
 -- ── rows ──
 
 -- the type is judged before the name
-row_type-first : HasFault (text_of (codes "ROWS" ∷ codes " N  COST" ∷ codes " L  R1" ∷ codes " X  COST" ∷ [])) (in_line 4 fault.RowType)
+row_type-first : HasFault Fixed (text_of (codes "ROWS" ∷ codes " N  COST" ∷ codes " L  R1" ∷ codes " X  COST" ∷ [])) (in_line 4 fault.RowType)
 unfolding whole zero_ℚ ratio ◌*ℚ◌ eq_ℚ lt_ℚ le_ℚ neg_ℚ fits_width
 row_type-first = refl
 
-row-repeated : HasFault (text_of (codes "ROWS" ∷ codes " N  COST" ∷ codes " L  R1" ∷ codes " G  R1" ∷ [])) (in_line 4 fault.Repeated)
+row-repeated : HasFault Fixed (text_of (codes "ROWS" ∷ codes " N  COST" ∷ codes " L  R1" ∷ codes " G  R1" ∷ [])) (in_line 4 fault.Repeated)
 unfolding whole zero_ℚ ratio ◌*ℚ◌ eq_ℚ lt_ℚ le_ℚ neg_ℚ fits_width
 row-repeated = refl
 
-objective-repeated : HasFault (text_of (codes "ROWS" ∷ codes " N  COST" ∷ codes " L  R1" ∷ codes " G  COST" ∷ [])) (in_line 4 fault.Repeated)
+objective-repeated : HasFault Fixed (text_of (codes "ROWS" ∷ codes " N  COST" ∷ codes " L  R1" ∷ codes " G  COST" ∷ [])) (in_line 4 fault.Repeated)
 unfolding whole zero_ℚ ratio ◌*ℚ◌ eq_ℚ lt_ℚ le_ℚ neg_ℚ fits_width
 objective-repeated = refl
 
 -- the names of further N rows count
-free_row-repeated : HasFault (text_of (codes "ROWS" ∷ codes " N  COST" ∷ codes " L  R1" ∷ codes " N  COST2" ∷ codes " E  COST2" ∷ [])) (in_line 5 fault.Repeated)
+free_row-repeated : HasFault Fixed (text_of (codes "ROWS" ∷ codes " N  COST" ∷ codes " L  R1" ∷ codes " N  COST2" ∷ codes " E  COST2" ∷ [])) (in_line 5 fault.Repeated)
 unfolding whole zero_ℚ ratio ◌*ℚ◌ eq_ℚ lt_ℚ le_ℚ neg_ℚ fits_width
 free_row-repeated = refl
 
@@ -142,37 +143,37 @@ rows-limit-free = refl
 
 -- ── columns ──
 
-marker : HasFault (text_of (codes "ROWS" ∷ codes " N  COST" ∷ codes " L  R1" ∷ codes "COLUMNS" ∷ codes "    M         'MARKER'                 'INTORG'" ∷ [])) (in_line 5 fault.Integer)
+marker : HasFault Fixed (text_of (codes "ROWS" ∷ codes " N  COST" ∷ codes " L  R1" ∷ codes "COLUMNS" ∷ codes "    M         'MARKER'                 'INTORG'" ∷ [])) (in_line 5 fault.Integer)
 unfolding whole zero_ℚ ratio ◌*ℚ◌ eq_ℚ lt_ℚ le_ℚ neg_ℚ fits_width
 marker = refl
 
-marker-number : HasFault (text_of (codes "ROWS" ∷ codes " N  COST" ∷ codes " L  R1" ∷ codes "COLUMNS" ∷ codes "    X         COST      'MARKER'" ∷ [])) (in_line 5 fault.Integer)
+marker-number : HasFault Fixed (text_of (codes "ROWS" ∷ codes " N  COST" ∷ codes " L  R1" ∷ codes "COLUMNS" ∷ codes "    X         COST      'MARKER'" ∷ [])) (in_line 5 fault.Integer)
 unfolding whole zero_ℚ ratio ◌*ℚ◌ eq_ℚ lt_ℚ le_ℚ neg_ℚ fits_width
 marker-number = refl
 
 -- the row is judged before the number
-column_row-unknown : HasFault (text_of (codes "ROWS" ∷ codes " N  COST" ∷ codes " L  R1" ∷ codes "COLUMNS" ∷ codes "    X         R2        1X" ∷ [])) (in_line 5 fault.UnknownRow)
+column_row-unknown : HasFault Fixed (text_of (codes "ROWS" ∷ codes " N  COST" ∷ codes " L  R1" ∷ codes "COLUMNS" ∷ codes "    X         R2        1X" ∷ [])) (in_line 5 fault.UnknownRow)
 unfolding whole zero_ℚ ratio ◌*ℚ◌ eq_ℚ lt_ℚ le_ℚ neg_ℚ fits_width
 column_row-unknown = refl
 
 -- also after a 0, and before the number
-column_row-repeated : HasFault (text_of (codes "ROWS" ∷ codes " N  COST" ∷ codes " L  R1" ∷ codes "COLUMNS" ∷ codes
+column_row-repeated : HasFault Fixed (text_of (codes "ROWS" ∷ codes " N  COST" ∷ codes " L  R1" ∷ codes "COLUMNS" ∷ codes
     "    X         R1        0              R1        1X" ∷ [])) (in_line 5 fault.Repeated)
 unfolding whole zero_ℚ ratio ◌*ℚ◌ eq_ℚ lt_ℚ le_ℚ neg_ℚ fits_width
 column_row-repeated = refl
 
-column_cost-repeated : HasFault (text_of (codes "ROWS" ∷ codes " N  COST" ∷ codes " L  R1" ∷ codes "COLUMNS" ∷ codes "    X         COST      1" ∷ codes
+column_cost-repeated : HasFault Fixed (text_of (codes "ROWS" ∷ codes " N  COST" ∷ codes " L  R1" ∷ codes "COLUMNS" ∷ codes "    X         COST      1" ∷ codes
     "    X         R1        1              COST      1" ∷ [])) (in_line 6 fault.Repeated)
 unfolding whole zero_ℚ ratio ◌*ℚ◌ eq_ℚ lt_ℚ le_ℚ neg_ℚ fits_width
 column_cost-repeated = refl
 
 -- a second pair without its number
-column_number : HasFault (text_of (codes "ROWS" ∷ codes " N  COST" ∷ codes " L  R1" ∷ codes "COLUMNS" ∷ codes "    X         R1        1              COST" ∷ [])) (in_line 5 fault.Number)
+column_number : HasFault Fixed (text_of (codes "ROWS" ∷ codes " N  COST" ∷ codes " L  R1" ∷ codes "COLUMNS" ∷ codes "    X         R1        1              COST" ∷ [])) (in_line 5 fault.Number)
 unfolding whole zero_ℚ ratio ◌*ℚ◌ eq_ℚ lt_ℚ le_ℚ neg_ℚ fits_width
 column_number = refl
 
 -- a second pair without its name, which is then the empty name
-second_name-empty : HasFault (text_of (codes "ROWS" ∷ codes " N  COST" ∷ codes " L  R1" ∷ codes "COLUMNS" ∷ codes
+second_name-empty : HasFault Fixed (text_of (codes "ROWS" ∷ codes " N  COST" ∷ codes " L  R1" ∷ codes "COLUMNS" ∷ codes
     "    X         R1        1                        1" ∷ [])) (in_line 5 fault.UnknownRow)
 unfolding whole zero_ℚ ratio ◌*ℚ◌ eq_ℚ lt_ℚ le_ℚ neg_ℚ fits_width
 second_name-empty = refl
@@ -200,36 +201,36 @@ entries-limit-zero = refl
 -- ── right sides and ranges ──
 
 -- further N rows are dropped with their numbers, a cost of 0 is not kept, a right side of the objective makes the constant, and other sets are passed over
-rich-read : IsDeckOf (text_of (codes "ROWS" ∷ codes " N  COST" ∷ codes " E  R1" ∷ codes " N  SPARE" ∷ codes " G  R2" ∷ codes "COLUMNS" ∷ codes
+rich-read : IsDeckOf Fixed (text_of (codes "ROWS" ∷ codes " N  COST" ∷ codes " E  R1" ∷ codes " N  SPARE" ∷ codes " G  R2" ∷ codes "COLUMNS" ∷ codes
     "    X         COST      0              R2        3" ∷ codes "    X         SPARE     9              R1        1" ∷ codes "RANGES" ∷ codes
     "    A         R2        -2             COST      1" ∷ codes "    A         R1        0" ∷ codes "RHS" ∷ codes "    A         COST      7" ∷ codes
     "    B         R9        1X" ∷ codes "    A         SPARE     1              R2        .5" ∷ codes "ENDATA" ∷ [])) rich_deck 16
 unfolding whole zero_ℚ ratio ◌*ℚ◌ eq_ℚ lt_ℚ le_ℚ neg_ℚ fits_width rich_deck
 rich-read = refl
 
-right_row-unknown : HasFault (text_of (codes "ROWS" ∷ codes " N  COST" ∷ codes " L  R1" ∷ codes "COLUMNS" ∷ codes "    X         COST      2" ∷ codes "RHS" ∷
+right_row-unknown : HasFault Fixed (text_of (codes "ROWS" ∷ codes " N  COST" ∷ codes " L  R1" ∷ codes "COLUMNS" ∷ codes "    X         COST      2" ∷ codes "RHS" ∷
     codes "    A         R1        1" ∷ codes "    A         R2        1X" ∷ [])) (in_line 8 fault.UnknownRow)
 unfolding whole zero_ℚ ratio ◌*ℚ◌ eq_ℚ lt_ℚ le_ℚ neg_ℚ fits_width
 right_row-unknown = refl
 
-right_side-repeated : HasFault (text_of (codes "ROWS" ∷ codes " N  COST" ∷ codes " L  R1" ∷ codes "COLUMNS" ∷ codes "    X         COST      2" ∷ codes "RHS" ∷
+right_side-repeated : HasFault Fixed (text_of (codes "ROWS" ∷ codes " N  COST" ∷ codes " L  R1" ∷ codes "COLUMNS" ∷ codes "    X         COST      2" ∷ codes "RHS" ∷
     codes "    A         R1        1" ∷ codes "    A         COST      1              R1        1X" ∷ [])) (in_line 8 fault.Repeated)
 unfolding whole zero_ℚ ratio ◌*ℚ◌ eq_ℚ lt_ℚ le_ℚ neg_ℚ fits_width
 right_side-repeated = refl
 
-right_number : HasFault (text_of (codes "ROWS" ∷ codes " N  COST" ∷ codes " L  R1" ∷ codes "COLUMNS" ∷ codes "    X         COST      2" ∷ codes "RHS" ∷ codes
+right_number : HasFault Fixed (text_of (codes "ROWS" ∷ codes " N  COST" ∷ codes " L  R1" ∷ codes "COLUMNS" ∷ codes "    X         COST      2" ∷ codes "RHS" ∷ codes
     "    A         R1        1" ∷ codes "    A         COST      1X" ∷ [])) (in_line 8 fault.Number)
 unfolding whole zero_ℚ ratio ◌*ℚ◌ eq_ℚ lt_ℚ le_ℚ neg_ℚ fits_width
 right_number = refl
 
 -- also of an N row, whose ranges are dropped
-range_row-repeated : HasFault (text_of (codes "ROWS" ∷ codes " N  COST" ∷ codes " L  R1" ∷ codes "COLUMNS" ∷ codes "    X         COST      2" ∷ codes "RANGES"
+range_row-repeated : HasFault Fixed (text_of (codes "ROWS" ∷ codes " N  COST" ∷ codes " L  R1" ∷ codes "COLUMNS" ∷ codes "    X         COST      2" ∷ codes "RANGES"
     ∷ codes "    A         COST      1" ∷ codes "    A         COST      1" ∷ [])) (in_line 8 fault.Repeated)
 unfolding whole zero_ℚ ratio ◌*ℚ◌ eq_ℚ lt_ℚ le_ℚ neg_ℚ fits_width
 range_row-repeated = refl
 
 -- the set whose name is empty
-empty_set : HasFault (text_of (codes "ROWS" ∷ codes " N  COST" ∷ codes " L  R1" ∷ codes "COLUMNS" ∷ codes "    X         COST      2" ∷ codes "RHS" ∷ codes
+empty_set : HasFault Fixed (text_of (codes "ROWS" ∷ codes " N  COST" ∷ codes " L  R1" ∷ codes "COLUMNS" ∷ codes "    X         COST      2" ∷ codes "RHS" ∷ codes
     "              R1        1" ∷ codes "    A         R9        1" ∷ codes "              R9        1" ∷ [])) (in_line 9 fault.UnknownRow)
 unfolding whole zero_ℚ ratio ◌*ℚ◌ eq_ℚ lt_ℚ le_ℚ neg_ℚ fits_width
 empty_set = refl

@@ -1,8 +1,9 @@
--- What a text is as a deck in fixed columns: the deck, or the text's first fault.
+-- What a text is as a deck in its form: the deck, or the text's first fault.
 use Rattle.std.specs.Prelude.{◌≡◌, ℕ, suc, ◌+◌, List, [], ◌∷◌, find, Option, Some, None, Ok, Err, Bool, false, if◌then◌else◌}
 use Rattle.rational.specs.Rational.{ℚ, lt_ℚ}
 use Rattle.lp_model.specs.Deck.{Deck, Interval}
 use Rattle.lp_text.specs.Lines.{Line, lines_of, size_of, whole_lines}
+use Rattle.lp_text.specs.declared.Form.{Form}
 use Rattle.lp_text.specs.declared.LineFault.{LineFault}
 use Rattle.mps_model.specs.DeckSoFar.{DeckSoFar, no_cards}
 use Rattle.mps_model.specs.Judgement.{has_finished, judge_line}
@@ -47,26 +48,26 @@ finished s line =
 -- ── reading ──
 
 -- what the lines are after n lines of so many bytes
-abbrev pub read_lines : ℕ → ℕ → DeckSoFar → List Line → Reading
-read_lines n used s [] = has_fault (no_end n)
-read_lines n used s (line ∷ lines) =
-    elim (judge_line used s line) [
+abbrev pub read_lines : Form → ℕ → ℕ → DeckSoFar → List Line → Reading
+read_lines form n used s [] = has_fault (no_end n)
+read_lines form n used s (line ∷ lines) =
+    elim (judge_line form used s line) [
       | Err fault ↦ has_fault (in_line (suc n) fault)
-      | Ok after ↦ if has_finished after.begun then finished after (suc n) else read_lines (suc n) (used + size_of line) after lines
+      | Ok after ↦ if has_finished after.begun then finished after (suc n) else read_lines form (suc n) (used + size_of line) after lines
     ]
 
 -- what a text is
-abbrev pub reading_of : List ℕ → Reading
-reading_of text = read_lines 0 0 no_cards (lines_of text)
+abbrev pub reading_of : Form → List ℕ → Reading
+reading_of form text = read_lines form 0 0 no_cards (lines_of text)
 
 -- the text is this deck, which ends at the line
-abbrev pub IsDeckOf : List ℕ → Deck → ℕ → Type 0
-IsDeckOf text d line = reading_of text ≡ is_deck d line
+abbrev pub IsDeckOf : Form → List ℕ → Deck → ℕ → Type 0
+IsDeckOf form text d line = reading_of form text ≡ is_deck d line
 
 -- the text has this first fault
-abbrev pub HasFault : List ℕ → TextFault → Type 0
-HasFault text fault = reading_of text ≡ has_fault fault
+abbrev pub HasFault : Form → List ℕ → TextFault → Type 0
+HasFault form text fault = reading_of form text ≡ has_fault fault
 
 -- no line that stands whole in the text has a fault, and none ends the deck
-abbrev pub IsOpen : List ℕ → Type 0
-IsOpen text = (n : ℕ) × (read_lines 0 0 no_cards (whole_lines text) ≡ has_fault (no_end n))
+abbrev pub IsOpen : Form → List ℕ → Type 0
+IsOpen form text = (n : ℕ) × (read_lines form 0 0 no_cards (whole_lines text) ≡ has_fault (no_end n))

@@ -1,5 +1,5 @@
 -- The deck so far: what the cards before a line have come to.
-use Rattle.std.specs.Prelude.{ℕ, List, [], ◌∷◌, Option, Some, None, Result, Ok, Err, Bool, if◌then◌else◌}
+use Rattle.std.specs.Prelude.{ℕ, List, [], ◌∷◌, Option, Some, None, Result, Ok, Err, Bool, false, if◌then◌else◌}
 use Rattle.std.specs.List.{list_any}
 use Rattle.lp_model.specs.Deck.{Deck}
 use Rattle.lp_model.specs.Edit.{find_row, new_deck, same_bytes}
@@ -20,6 +20,8 @@ pub record DeckSoFar : Type 0 where
   -- the sections that have begun, the last one first
   pub begun : List Section
   pub deck : Deck
+  -- the next card is to hold the sense
+  pub awaits_sense : Bool
   -- the names of the N rows; the first is the objective's, the others are dropped
   pub free_rows : List (List ℕ)
   -- the set that the section's first card of data names
@@ -31,7 +33,7 @@ pub record DeckSoFar : Type 0 where
 
 -- before the first card
 abbrev pub no_cards : DeckSoFar
-no_cards = record { begun = []; deck = new_deck [] []; free_rows = []; set = None; named = []; lowered = [] }
+no_cards = record { begun = []; deck = new_deck [] []; awaits_sense = false; free_rows = []; set = None; named = []; lowered = [] }
 
 -- whether a name is among names
 abbrev pub is_among : List ℕ → List (List ℕ) → Bool

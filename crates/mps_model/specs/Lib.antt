@@ -4,5 +4,6 @@ pub mod DeckSoFar
 pub mod RowCards
 pub mod PairCards
 pub mod BoundCards
+pub mod CardFields
 pub mod Judgement
 pub mod DeckOf

@@ -1,5 +1,5 @@
 -- Cards with pairs of a row's name and a number: those of the columns, of the right sides and of the ranges.
-use Rattle.std.specs.Prelude.{ℕ, ◌+◌, ◌-◌, List, [], ◌∷◌, length, Some, None, Result, Ok, Err, Bool, ◌||◌, ◌==◌, nat_lt, if◌then◌else◌, codes}
+use Rattle.std.specs.Prelude.{ℕ, ◌+◌, ◌-◌, List, [], ◌∷◌, length, Some, None, Result, Ok, Err, Bool, ◌||◌, ◌==◌, nat_lt, if◌then◌else◌}
 use Rattle.std.specs.Option.{unwrap_or}
 use Rattle.rational.specs.Rational.{ℚ, eq_ℚ, neg_ℚ, zero_ℚ}
 use Rattle.lp_model.specs.Edit.{entry_count, find_column, same_bytes, with_column, with_constant, with_cost, with_entry, with_range, with_right}
@@ -45,10 +45,6 @@ judge_pairs use_number s fields =
 
 -- ── columns ──
 
--- the text that marks integer columns
-abbrev pub is_marker : List ℕ → Bool
-is_marker text = same_bytes text (codes "'MARKER'")
-
 -- a number that is not 0 wants room for one more
 abbrev pub has_room : DeckSoFar → ℚ → Bool
 has_room s v = eq_ℚ v zero_ℚ || nat_lt (entry_count s.deck) entry_limit
@@ -67,11 +63,9 @@ begin_column s name = if nat_lt (length s.deck.columns) column_limit then Ok (re
 abbrev pub at_column : DeckSoFar → List ℕ → Result DeckSoFar LineFault
 at_column s name = elim (find_column s.deck name) [ None ↦ begin_column s name | Some j ↦ if j + 1 == length s.deck.columns then Ok s else Err fault.Scattered ]
 
--- a card of a column: an integer marker, the column, then the pairs
+-- a card of a column: the column, then the pairs
 abbrev pub judge_column : DeckSoFar → List (List ℕ) → Result DeckSoFar LineFault
-judge_column s fields =
-    if is_marker (field_of fields 3) || is_marker (field_of fields 4) then Err fault.Integer
-    else and_then (at_column s (field_of fields 2)) (λ after. judge_pairs use_in_column after fields)
+judge_column s fields = and_then (at_column s (field_of fields 2)) (λ after. judge_pairs use_in_column after fields)
 
 -- ── right sides and ranges ──
 

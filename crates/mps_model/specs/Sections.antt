@@ -3,11 +3,12 @@ use Rattle.std.specs.Prelude.{ℕ, List, [], ◌∷◌, Option, Bool, true, fals
 use Rattle.std.specs.List.{list_any}
 use Rattle.lp_model.specs.Edit.{same_bytes}
 use Rattle.mps_model.specs.declared.Section.{Section}
-use Rattle.mps_model.specs.declared.Section.TheVariants.{Bounds, Columns, Finish, Ranges, RightSides, Rows, Title}
+use Rattle.mps_model.specs.declared.Section.TheVariants.{Bounds, Columns, Finish, ObjectiveSense, Ranges, RightSides, Rows, Title}
 
 -- the word of a section's card
 abbrev pub word_of : Section → List ℕ
 word_of Title = codes "NAME"
+word_of ObjectiveSense = codes "OBJSENSE"
 word_of Rows = codes "ROWS"
 word_of Columns = codes "COLUMNS"
 word_of RightSides = codes "RHS"
@@ -17,7 +18,7 @@ word_of Finish = codes "ENDATA"
 
 -- all sections
 abbrev pub sections : List Section
-sections = Title ∷ Rows ∷ Columns ∷ RightSides ∷ Ranges ∷ Bounds ∷ Finish ∷ []
+sections = Title ∷ ObjectiveSense ∷ Rows ∷ Columns ∷ RightSides ∷ Ranges ∷ Bounds ∷ Finish ∷ []
 
 -- the section of a word
 abbrev pub section_of : List ℕ → Option Section
@@ -27,10 +28,11 @@ section_of word = find (λ section. same_bytes (word_of section) word) sections
 abbrev pub has_begun : Section → List Section → Bool
 has_begun section begun = list_any (λ s. same_bytes (word_of s) (word_of section)) begun
 
--- whether a section may begin after those that have: the title first or never, the rows once, then the columns once, then the others, each at most once and in any order
+-- whether a section may begin after those that have: the title first or never, the sense at most once and before the rows, the rows once, then the columns once, then the others, each at most once and in any order
 abbrev pub may_begin : Section → List Section → Bool
 may_begin Title [] = true
 may_begin Title (s ∷ begun) = false
+may_begin ObjectiveSense begun = not (has_begun Rows begun) && not (has_begun ObjectiveSense begun)
 may_begin Rows begun = not (has_begun Rows begun)
 may_begin Columns begun = has_begun Rows begun && not (has_begun Columns begun)
 may_begin RightSides begun = has_begun Columns begun && not (has_begun RightSides begun)

@@ -1,10 +1,11 @@
-//! Decks in fixed MPS columns, as definitions.
+//! Decks in fixed MPS columns and in free form, as definitions.
 //!
 //! A text is a deck that ends at its ENDATA line, or it has a first fault: each line is judged by the
 //! cards before it, in order, and the first fault of the first line that has one is the text's. The
-//! columns and fields of a card are those of `lp_text`, and so is what may be wrong with a line; here
-//! stand the number fields, the sections and their order, what each card makes of the deck so far, and
-//! the faults in the order in which they are found.
+//! columns, fields and tokens of a card are those of `lp_text`, and so is what may be wrong with a line;
+//! here stand the number fields, the sections and their order, the fields that a card's tokens are, what
+//! each card makes of the deck so far, and the faults in the order in which they are found. Past its
+//! fields a card is judged alike in both forms.
 //!
 //! The crate has almost no code: it declares the plain enums that the readers share with the
 //! definitions. Its `specs/` are what the contract of a deck's reader cites; read `DeckOf` first. It
@@ -19,6 +20,8 @@ use thiserror::Error;
 pub enum Section {
     /// NAME: the deck's name, on the section's own card.
     Title,
+    /// OBJSENSE: the sense, as the second word of the section's own card or as the first word of the next card.
+    ObjectiveSense,
     /// ROWS.
     Rows,
     /// COLUMNS.

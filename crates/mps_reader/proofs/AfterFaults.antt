@@ -4,7 +4,7 @@ use Rattle.std.specs.Result.{IfErr, IsErrOf, MatchResult}
 use Rattle.lp_model.specs.Deck.{Column, Deck}
 use Rattle.mps_cards.specs.ReaderState.{ReaderState}
 use Rattle.lp_text.specs.declared.LineFault.{LineFault}
-use Rattle.lp_text.specs.declared.LineFault.TheVariants.{Bound, Columns, Integer, Limit, NotAscii, Number, Repeated, RowType, Scattered, Section, UnknownColumn, UnknownRow}
+use Rattle.lp_text.specs.declared.LineFault.TheVariants.{Bound, Columns, Integer, Limit, NotAscii, Number, Repeated, RowType, Scattered, Section, Sense, Token, UnknownColumn, UnknownRow}
 use Rattle.lp_text.specs.declared.Counted.TheVariants as counted
 use Rattle.mps_model.specs.DeckSoFar.{DeckSoFar}
 use Rattle.mps_model.specs.DeckOf.{TextFault, crossed_bounds, finished, has_fault, in_line, is_crossed, is_deck, no_objective}
@@ -24,6 +24,8 @@ behind n (Limit counted.Entries) reader of_card h = h
 behind n (Limit counted.Bytes) reader of_card h = absurd of_card
 behind n NotAscii reader of_card h = h
 behind n (Columns column) reader of_card h = h
+behind n Token reader of_card h = h
+behind n Sense reader of_card h = h
 behind n Section reader of_card h = h
 behind n RowType reader of_card h = h
 behind n UnknownRow reader of_card h = h

@@ -76,6 +76,7 @@ module _ (draft : Draft) (s : DeckSoFar) (h : IsDraftOf draft s) where
     stands_with_bound = record {
       begun = h.begun;
       deck = new_deck;
+      awaits = h.awaits;
       free_rows = h.free_rows;
       set = h.set;
       named = h.named;

@@ -1,26 +1,31 @@
 -- A fault of a card is never the limit of bytes.
-use Rattle.std.specs.Prelude.{ℕ, ◌+◌, List, [], ◌∷◌, length, Option, Some, None, IfErr, Result, Ok, Err, Bool, true, false, cond, ◌||◌, ◌==◌, is_some, nat_lt, not, codes}
+use Rattle.std.specs.Prelude.{ℕ, ◌+◌, List, [], ◌∷◌, length, Option, Some, None, IfErr, Result, Ok, Err, Bool, true, false, cond, ◌&&◌, ◌||◌, ◌==◌, ◌%◌, take, is_some, nat_lt, not, codes}
 use Rattle.std.specs.Option.{unwrap_or}
 use Rattle.rational.specs.Rational.{ℚ}
 use Rattle.lp_model.specs.Edit.{find_column, same_bytes}
-use Rattle.lp_text.specs.Cards.{Card, byte_in, card_in, card_of, counted, data_card, field_of, filled_gap, is_blank, is_ignored, is_printable}
+use Rattle.lp_text.specs.Cards.{byte_in, card_in, data_card, field_of, filled_gap, is_blank, is_ignored, is_printable}
+use Rattle.lp_text.specs.FreeCards.{free_card_in, is_too_long}
+use Rattle.lp_text.specs.Senses.{sense_of}
+use Rattle.lp_text.specs.declared.Form.{Form}
+use Rattle.lp_text.specs.declared.Form.TheVariants as form_of
 use Rattle.std.specs.List.{list_all}
-use Rattle.lp_text.specs.Limits.{column_limit, row_limit}
+use Rattle.lp_text.specs.Limits.{column_limit, free_line_limit, row_limit}
 use Rattle.mps_model.specs.declared.BoundKind.{BoundKind}
 use Rattle.mps_model.specs.BoundCards.{bound_number, has_number, integer_kinds, is_wrong_infinity, judge_bound, judge_bound_of, kind_of, with_bound}
 use Rattle.lp_text.specs.declared.LineFault.{LineFault}
 use Rattle.lp_text.specs.declared.LineFault.TheVariants as fault
 use Rattle.lp_text.specs.declared.Counted.TheVariants as counted
 use Rattle.mps_model.specs.DeckSoFar.{DeckSoFar, RowPlace, and_then, dropped, is_among, objective, place_of, row}
-use Rattle.mps_model.specs.Judgement.{begin_section, judge_card, judge_columns, judge_data, judge_section}
+use Rattle.mps_model.specs.CardFields.{bound_tokens, counted_tokens, fixed_fields, free_fields, is_marker, named_pairs}
+use Rattle.mps_model.specs.Judgement.{begin_section, has_no_sense, judge_by_form, judge_card, judge_data, judge_free_card, judge_section, judge_sense, judge_text, judged_by}
 use Rattle.mps_model.specs.declared.FieldFault.{FieldFault}
 use Rattle.mps_model.specs.NumberField.{field_value}
-use Rattle.mps_model.specs.PairCards.{UseOfNumber, at_column, begin_column, has_room, has_second_pair, is_marker, judge_column, judge_in_set, judge_pair, judge_pairs, number_in, use_as_range, use_as_right, use_in_column, with_named, with_set}
+use Rattle.mps_model.specs.PairCards.{UseOfNumber, at_column, begin_column, has_room, has_second_pair, judge_column, judge_in_set, judge_pair, judge_pairs, number_in, use_as_range, use_as_right, use_in_column, with_named, with_set}
 use Rattle.mps_model.specs.declared.RowType.{RowType}
 use Rattle.mps_model.specs.declared.RowType.TheVariants.{Free, Kept}
 use Rattle.mps_model.specs.RowCards.{judge_row, row_type_of, with_row_of}
 use Rattle.mps_model.specs.declared.Section.{Section}
-use Rattle.mps_model.specs.declared.Section.TheVariants.{Bounds, Columns, Finish, Ranges, RightSides, Rows, Title}
+use Rattle.mps_model.specs.declared.Section.TheVariants.{Bounds, Columns, Finish, ObjectiveSense, Ranges, RightSides, Rows, Title}
 use Rattle.mps_model.specs.Sections.{may_begin, section_of}
 
 -- a fault that a card may have: any but the limit of bytes
@@ -105,8 +110,7 @@ column_found s name = by (find_column s.deck name)
     by (Some j) = either (j + 1 == length s.deck.columns) _ _ tt tt
 
 column_judged : (s : DeckSoFar) (fields : List (List ℕ)) → JudgesCard (judge_column s fields)
-column_judged s fields = either (is_marker (field_of fields 3) || is_marker (field_of fields 4)) _ _ tt
-    (then (at_column s (field_of fields 2)) _ (column_found s (field_of fields 2)) (λ after. pairs_judged use_in_column column_used after fields))
+column_judged s fields = then (at_column s (field_of fields 2)) _ (column_found s (field_of fields 2)) (λ after. pairs_judged use_in_column column_used after fields)
 
 -- ── bounds ──
 
@@ -145,18 +149,60 @@ data_judged (Columns ∷ begun) s fields = column_judged s fields
 data_judged (RightSides ∷ begun) s fields = in_set_judged _ (pairs_judged use_as_right right_used) s fields
 data_judged (Ranges ∷ begun) s fields = in_set_judged _ (pairs_judged use_as_range range_used) s fields
 data_judged (Bounds ∷ begun) s fields = in_set_judged _ bound_judged s fields
+data_judged (ObjectiveSense ∷ begun) s fields = tt
 data_judged (Title ∷ begun) s fields = tt
 data_judged (Finish ∷ begun) s fields = tt
 data_judged [] s fields = tt
 
-section_judged : (s : DeckSoFar) (fields : List (List ℕ)) → JudgesCard (judge_section s fields)
-section_judged s fields = by (section_of (field_of fields 1))
+section_judged : (s : DeckSoFar) (word second name : List ℕ) → JudgesCard (judge_section s word second name)
+section_judged s word second name = by (section_of word)
   where
-    by : (o : Option Section) → JudgesCard (elim o [ None ↦ Err fault.Section | Some kind ↦ cond (may_begin kind s.begun) (Ok (begin_section s kind fields)) (Err fault.Section) ])
+    by : (o : Option Section) → JudgesCard (elim o [
+      | None ↦ Err fault.Section
+      | Some kind ↦ cond (has_no_sense kind second) (Err fault.Sense)
+          (cond (may_begin kind s.begun) (Ok (begin_section s kind second name)) (Err fault.Section))
+    ])
     by None = tt
-    by (Some kind) = either (may_begin kind s.begun) _ _ tt tt
+    by (Some kind) = either (has_no_sense kind second) _ _ tt (either (may_begin kind s.begun) _ _ tt tt)
 
--- what a line is by itself
+-- ── the fields of a card ──
+
+fixed_cut : (begun : List Section) (fields : List (List ℕ)) → JudgesCard (fixed_fields begun fields)
+fixed_cut (Columns ∷ begun) fields = either (is_marker (field_of fields 3) || is_marker (field_of fields 4)) _ _ tt tt
+fixed_cut (Rows ∷ begun) fields = tt
+fixed_cut (RightSides ∷ begun) fields = tt
+fixed_cut (Ranges ∷ begun) fields = tt
+fixed_cut (Bounds ∷ begun) fields = tt
+fixed_cut (ObjectiveSense ∷ begun) fields = tt
+fixed_cut (Title ∷ begun) fields = tt
+fixed_cut (Finish ∷ begun) fields = tt
+fixed_cut [] fields = tt
+
+tokens_counted : (right : Bool) (fields : List (List ℕ)) → JudgesCard (counted_tokens right fields)
+tokens_counted true fields = tt
+tokens_counted false fields = tt
+
+bound_cut : (kind : BoundKind) (tokens : List (List ℕ)) → JudgesCard (bound_tokens kind tokens)
+bound_cut kind tokens = either (length tokens == cond (has_number kind) 3 2) _ _ tt
+    (tokens_counted (length tokens == 4 || (length tokens == 3 && not (has_number kind))) tokens)
+
+pairs_cut : (tokens : List (List ℕ)) → JudgesCard (named_pairs tokens)
+pairs_cut tokens = tokens_counted (length tokens == 3 || length tokens == 5) ([] ∷ tokens)
+
+free_cut : (begun : List Section) (tokens : List (List ℕ)) → JudgesCard (free_fields begun tokens)
+free_cut (Rows ∷ begun) tokens = tokens_counted (length tokens == 2) tokens
+free_cut (Columns ∷ begun) tokens = either (is_marker (field_of tokens 2)) _ _ tt (pairs_cut tokens)
+free_cut (RightSides ∷ begun) tokens = pairs_cut (cond (length tokens % 2 == 0) ([] ∷ tokens) tokens)
+free_cut (Ranges ∷ begun) tokens = pairs_cut (cond (length tokens % 2 == 0) ([] ∷ tokens) tokens)
+free_cut (Bounds ∷ begun) tokens = then (kind_of (field_of tokens 1)) _ (kind_read (field_of tokens 1)) (λ kind. bound_cut kind tokens)
+free_cut (ObjectiveSense ∷ begun) tokens = tt
+free_cut (Title ∷ begun) tokens = tt
+free_cut (Finish ∷ begun) tokens = tt
+free_cut [] tokens = tt
+
+-- ── lines ──
+
+-- what a line in fixed columns is by itself
 card_judged : (text : List ℕ) → JudgesCard (card_in text)
 card_judged text = either (is_ignored text) _ _ tt (either (not (list_all is_printable text)) _ _ tt (either (is_blank (byte_in text 1)) _ _ (by (filled_gap text)) tt))
   where
@@ -164,11 +210,30 @@ card_judged text = either (is_ignored text) _ _ tt (either (not (list_all is_pri
     by None = tt
     by (Some column) = tt
 
--- what a line's columns are judged to be
-pub columns_judged : (s : DeckSoFar) (line : List ℕ) → JudgesCard (judge_columns s line)
-columns_judged s line = by (card_of line) (card_judged (counted line))
-  where
-    by : (o : Result (Option Card) LineFault) → JudgesCard o → JudgesCard (elim o [ Err why ↦ Err why | Ok None ↦ Ok s | Ok (Some card) ↦ judge_card s card ])
-    by (Err why) h = h
-    by (Ok None) h = tt
-    by (Ok (Some card)) h = either card.is_section _ _ (section_judged s card.fields) (data_judged s.begun s card.fields)
+-- what a line in free form is by itself
+free_card_judged : (text : List ℕ) → JudgesCard (free_card_in text)
+free_card_judged text =
+    either (byte_in text 1 == 42) _ _ tt
+    (either (not (list_all is_printable (take free_line_limit text))) _ _ tt
+    (either (is_too_long text) _ _ tt
+    (either (list_all is_blank text) _ _ tt tt)))
+
+card_or_none : {C : Type 0} (judge : DeckSoFar → C → Result DeckSoFar LineFault) → ((s : DeckSoFar) (card : C) → JudgesCard (judge s card))
+    → (s : DeckSoFar) (o : Result (Option C) LineFault) → JudgesCard o → JudgesCard (judged_by judge s o)
+card_or_none judge of_card s (Err why) h = h
+card_or_none judge of_card s (Ok None) h = tt
+card_or_none judge of_card s (Ok (Some card)) h = of_card s card
+
+by_form_judged : (form : Form) (s : DeckSoFar) (text : List ℕ) → JudgesCard (judge_by_form form s text)
+by_form_judged form_of.Fixed s text = card_or_none judge_card (λ s card. either card.is_section _ _
+    (section_judged s (field_of card.fields 1) (field_of card.fields 2) (field_of card.fields 3))
+    (then (fixed_fields s.begun card.fields) _ (fixed_cut s.begun card.fields) (data_judged s.begun s))) s (card_in text) (card_judged text)
+by_form_judged form_of.Free s text = card_or_none judge_free_card (λ s card. either card.is_section _ _
+    (section_judged s (field_of card.tokens 1) (field_of card.tokens 2) (field_of card.tokens 2))
+    (then (free_fields s.begun card.tokens) _ (free_cut s.begun card.tokens) (data_judged s.begun s))) s (free_card_in text) (free_card_judged text)
+
+-- what the bytes of a line that count are judged to be
+pub text_judged : (form : Form) (s : DeckSoFar) (text : List ℕ) → JudgesCard (judge_text form s text)
+text_judged form s text = either s.awaits_sense _ _
+    (card_or_none judge_sense (λ s card. either (not card.is_section && is_some (sense_of (field_of card.tokens 1))) _ _ tt tt) s (free_card_in text) (free_card_judged text))
+    (by_form_judged form s text)

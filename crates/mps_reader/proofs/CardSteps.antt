@@ -1,10 +1,9 @@
 -- A card of a column, and the pairs of a card, one step after the other.
-use Rattle.std.proofs.Common.{◌≡◌, ℕ, List, cond, Option, Some, None, Result, Ok, Err, true, false, ◌||◌, sym, ap, ap₂, ◌∙◌, subst}
+use Rattle.std.proofs.Common.{◌≡◌, ℕ, List, cond, Option, Some, None, Result, Ok, true, false, sym, ap, ap₂, ◌∙◌, subst}
 use Rattle.lp_text.specs.Cards.{field_of}
 use Rattle.lp_text.specs.declared.LineFault.{LineFault}
-use Rattle.lp_text.specs.declared.LineFault.TheVariants as fault
 use Rattle.mps_model.specs.DeckSoFar.{DeckSoFar, and_then}
-use Rattle.mps_model.specs.PairCards.{UseOfNumber, at_column, has_second_pair, is_marker, judge_column, judge_pair, judge_pairs, use_in_column}
+use Rattle.mps_model.specs.PairCards.{UseOfNumber, at_column, has_second_pair, judge_column, judge_pair, judge_pairs, use_in_column}
 use Rattle.mps_reader.specs.Inner.Standing.{IsFound}
 
 -- a fault of the first step is one of both
@@ -42,10 +41,10 @@ module _ (s : DeckSoFar) (fields : List (List ℕ)) where
   pairs_after : DeckSoFar → Result DeckSoFar LineFault
   pairs_after after = judge_pairs use_in_column after fields
 
-  module _ (name : List ℕ) (name_is : name ≡ field_of fields 2) (plain : (is_marker (field_of fields 3) || is_marker (field_of fields 4)) ≡ false) where
+  module _ (name : List ℕ) (name_is : name ≡ field_of fields 2) where
     column-step : judge_column s fields ≡ and_then (at_column s name) pairs_after
     unfolding pairs_after
-    column-step = ap (λ b. cond b (Err fault.Integer) (and_then (at_column s (field_of fields 2)) pairs_after)) plain ∙ ap (λ n. and_then (at_column s n) pairs_after) (sym name_is)
+    column-step = ap (λ n. and_then (at_column s n) pairs_after) (sym name_is)
 
     pub column-refused : (fault : Option LineFault) → IsFound (at_column s name) fault → IsFound (judge_column s fields) fault
     column-refused fault found = subst (λ r. IsFound r fault) (sym column-step) (first_found (at_column s name) pairs_after fault found)

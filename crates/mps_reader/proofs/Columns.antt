@@ -20,7 +20,7 @@ use Rattle.mps_model.specs.Sections.{has_begun}
 use Rattle.mps_reader.specs.declared.bounds.Ends.{Ends}
 use Rattle.mps_reader.specs.declared.draft.Draft.{Draft}
 use Rattle.mps_reader.specs.Inner.Standing.{InColumns, IsLast, IsDraftOf, interval_of, deck_with, is_lowered, slot_of}
-use Rattle.mps_reader.proofs.Names.{same_bytes-equal}
+use Rattle.lp_text.proofs.SameBytes.{same_bytes-equal}
 use Rattle.mps_reader.proofs.Slots.{unmarked}
 use Rattle.mps_reader.proofs.WithEnds.{deck_with-columns, deck_with-find_column, deck_with-with_column}
 
@@ -65,6 +65,7 @@ module _ (draft : Draft) (s : DeckSoFar) (h : IsDraftOf draft s) where
       begun = h.begun;
       deck = ap (λ d. with_column d name) h.deck ∙ sym (deck_with-with_column draft.deck draft.free_rows.keys draft.bounds.items name e up h.bounded)
           ∙ ap (deck_with (with_column draft.deck name) draft.free_rows.keys) (sym more);
+      awaits = h.awaits;
       free_rows = h.free_rows;
       set = h.set;
       named = λ n. sym (unmarked (length draft.named) (slot_of (with_column draft.deck name) draft.free_rows.keys n));

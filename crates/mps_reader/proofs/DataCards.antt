@@ -1,12 +1,11 @@
 -- Cards of data, by the section that they stand in.
-use Rattle.std.proofs.Common.{◌≡◌, ℕ, Bool, true, false, List, [], ◌∷◌, Option, Some, Result, Ok, if◌then◌else◌, refl, sym, ap, ◌∙◌, subst}
-use Rattle.std.specs.List.{slice_get}
+use Rattle.std.proofs.Common.{◌≡◌, ℕ, Bool, true, false, List, [], ◌∷◌, Option, Result, Ok, if◌then◌else◌, refl, sym, ap, ◌∙◌, subst}
 use Rattle.std.specs.Option.{unwrap_or}
 use Rattle.lp_model.specs.Edit.{same_bytes}
 use Rattle.lp_text.specs.Cards.{field_of}
 use Rattle.lp_text.specs.declared.LineFault.{LineFault}
 use Rattle.mps_model.specs.declared.Section.{Section}
-use Rattle.mps_model.specs.declared.Section.TheVariants.{Bounds, Columns, Finish, Ranges, RightSides, Rows, Title}
+use Rattle.mps_model.specs.declared.Section.TheVariants.{Bounds, Columns, Finish, ObjectiveSense, Ranges, RightSides, Rows, Title}
 use Rattle.mps_model.specs.DeckSoFar.{DeckSoFar}
 use Rattle.mps_model.specs.Judgement.{judge_data}
 use Rattle.mps_model.specs.PairCards.{judge_in_set, with_set}
@@ -28,18 +27,14 @@ judged_by_last Columns before s fields = refl
 judged_by_last RightSides before s fields = refl
 judged_by_last Ranges before s fields = refl
 judged_by_last Bounds before s fields = refl
+judged_by_last ObjectiveSense before s fields = refl
 judged_by_last Finish before s fields = refl
 
--- the section that stands first in a draft judges a card
-pub judged_in : (draft : Draft) (s : DeckSoFar) (k kind : Section) → IsDraftOf draft s → slice_get draft.begun.items 0 ≡ Some k → k ≡ kind
+-- the section that has begun last in a draft judges a card
+pub judged_in : (draft : Draft) (s : DeckSoFar) (k kind : Section) → IsDraftOf draft s → (before : List Section) × (draft.begun.items ≡ k ∷ before) → k ≡ kind
     → (fields : List (List ℕ)) → judge_data s.begun s fields ≡ judge_data (kind ∷ []) s fields
-judged_in draft s k kind h first is fields = ap (λ b. judge_data b s fields) h.begun ∙ by draft.begun.items (first ∙ ap Some is)
-  where
-    by : (items : List Section) → slice_get items 0 ≡ Some kind → judge_data items s fields ≡ judge_data (kind ∷ []) s fields
-    by [] e = absurd (cc e)
-    by (x ∷ rest) e =
-        let same : x ≡ kind = cc e in
-        ap (λ y. judge_data (y ∷ rest) s fields) same ∙ judged_by_last kind rest s fields
+judged_in draft s k kind h last is fields =
+    ap (λ b. judge_data b s fields) (h.begun ∙ last.1 ∙ ap (λ x. x ∷ last.0) is) ∙ judged_by_last kind last.0 s fields
 
 -- ── cards of sections with sets ──
 

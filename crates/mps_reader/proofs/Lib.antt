@@ -25,3 +25,4 @@ pub mod BoundTaken
 pub mod BoundWords
 pub mod CrossedColumns
 pub mod DeckEnds
+pub mod CardsTaken

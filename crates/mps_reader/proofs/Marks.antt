@@ -6,7 +6,7 @@ use Rattle.std.proofs.lemmas.List.Quantifiers.{position-Some}
 use Rattle.deck_model.proofs.Lookups.{same_bytes-pointwise}
 use Rattle.lp_model.specs.Deck.{Deck, no_row}
 use Rattle.lp_model.specs.Edit.{find_row, same_bytes}
-use Rattle.mps_reader.proofs.Names.{same_bytes-equal, same_bytes-own}
+use Rattle.lp_text.proofs.SameBytes.{same_bytes-equal, same_bytes-own}
 use Rattle.mps_model.specs.DeckSoFar.{is_among}
 use Rattle.mps_reader.specs.Inner.Standing.{is_marked, slot_of, slot_with}
 

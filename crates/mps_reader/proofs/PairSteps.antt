@@ -211,6 +211,7 @@ module _ (how : Use) (draft : Draft) (s : DeckSoFar) (h : IsDraftOf draft s) (ma
       pair_stands = record {
         begun = h.begun;
         deck = ap (λ d. deck_after how d place v) h.deck ∙ deck_after-ends draft.deck draft.free_rows.keys draft.bounds.items how place v;
+        awaits = h.awaits;
         free_rows = h.free_rows;
         set = h.set;
         named = λ n.

@@ -1,5 +1,5 @@
 -- A draft with one row more.
-use Rattle.std.proofs.Common.{◌≡◌, ◌≢◌, ℕ, ◌<◌, ◌≤◌, Bool, true, false, ◌||◌, List, [], ◌∷◌, ◌++◌, length, position, slice_index_or, Option, Some, None, is_some, Ok, Err, nat_eq, nat_lt, lt-ltb, if◌then◌else◌, refl, sym, ap, ap₂, ◌∙◌, subst, arith}
+use Rattle.std.proofs.Common.{◌≡◌, ◌≢◌, ℕ, ◌<◌, ◌≤◌, true, false, ◌||◌, List, [], ◌∷◌, ◌++◌, length, position, slice_index_or, Option, Some, None, is_some, Ok, Err, nat_eq, nat_lt, lt-ltb, if◌then◌else◌, refl, sym, ap, ap₂, ◌∙◌, subst, arith}
 use Rattle.std.specs.Cmp.Lexicographic.{pointwise}
 use Rattle.std.specs.List.{list_any}
 use Rattle.std.specs.Option.{option_map}
@@ -22,9 +22,8 @@ use Rattle.mps_model.specs.RowCards.{judge_row, row_type_of, with_free_row, with
 use Rattle.mps_reader.specs.declared.bounds.Ends.{Ends}
 use Rattle.mps_reader.specs.declared.draft.Draft.{Draft}
 use Rattle.mps_reader.specs.declared.draft.Place.{Place}
-use Rattle.mps_reader.specs.Inner.Standing.{InRows, IsOrdered, IsDraftOf, deck_with, is_lowered, no_objective_name, place_is}
+use Rattle.mps_reader.specs.Inner.Standing.{InRows, IsOrdered, IsDraftOf, IsSpelled, deck_with, is_lowered, no_objective_name, place_is}
 use Rattle.mps_reader.proofs.Positions.{is_some-position}
-use Rattle.mps_reader.proofs.Names.{length-same}
 use Rattle.mps_reader.proofs.RowNames.{unplaced}
 use Rattle.mps_reader.proofs.SectionOrder.{before_columns}
 use Rattle.mps_reader.proofs.Slots.{unmarked_none}
@@ -70,16 +69,6 @@ first_apart (first ∷ others) name other none e =
     same_bytes-flip first name
     ∙ (or_parts (pointwise nat_eq name first) (list_any (pointwise nat_eq name) others) (sym (is_some-position (pointwise nat_eq name) (first ∷ others)) ∙ ap is_some none)).0
 
--- a short name is not the one that no card spells
-short_apart : (name : List ℕ) → length name ≤ 8 → same_bytes no_objective_name name ≡ false
-short_apart name short = by (same_bytes no_objective_name name) refl
-  where
-    by : (b : Bool) → same_bytes no_objective_name name ≡ b → same_bytes no_objective_name name ≡ false
-    by false e = e
-    by true e =
-        let long : 12 ≡ length name = length-same no_objective_name name e in
-        absurd (omega arith)
-
 module _ (draft : Draft) (s : DeckSoFar) (h : IsDraftOf draft s) (at : InRows draft) where
   -- in the section of the rows the columns have not begun
   pub no_columns : has_begun Columns s.begun ≡ false
@@ -90,14 +79,15 @@ module _ (draft : Draft) (s : DeckSoFar) (h : IsDraftOf draft s) (at : InRows dr
   pub no_column : length draft.deck.columns ≡ 0
   no_column = ap length (h.early no_columns)
 
-  grown : (new : Draft) (deck : Deck) (free_rows : List (List ℕ)) → new.begun ≡ draft.begun → new.set ≡ draft.set → new.named ≡ draft.named → new.bounds ≡ draft.bounds
+  grown : (new : Draft) (deck : Deck) (free_rows : List (List ℕ)) → new.begun ≡ draft.begun → new.awaits_sense ≡ draft.awaits_sense → new.set ≡ draft.set → new.named ≡ draft.named → new.bounds ≡ draft.bounds
       → deck ≡ deck_with new.deck new.free_rows.keys new.bounds.items → free_rows ≡ new.free_rows.keys → new.deck.columns ≡ draft.deck.columns
       → new.deck.objective ≡ slice_index_or new.free_rows.keys 0 no_objective_name → IsDraftOf new (record s { deck = deck; free_rows = free_rows })
-  grown new deck free_rows begun set named bounds is names columns_same objective =
+  grown new deck free_rows begun awaits set named bounds is names columns_same objective =
       let blank : new.named ≡ [] = named ∙ h.blank no_columns in
       record {
         begun = h.begun ∙ ap (λ b. b.items) (sym begun);
         deck = is;
+        awaits = h.awaits ∙ sym awaits;
         free_rows = names;
         set = h.set ∙ sym set;
         named = λ name. h.named name ∙ unmarked_none draft.named _ (h.blank no_columns) ∙ sym (unmarked_none new.named _ blank);
@@ -112,10 +102,10 @@ module _ (draft : Draft) (s : DeckSoFar) (h : IsDraftOf draft s) (at : InRows dr
       }
 
   -- an N row more
-  pub free_row_added : (name : List ℕ) (new : Draft) → new.begun ≡ draft.begun → new.set ≡ draft.set → new.named ≡ draft.named → new.bounds ≡ draft.bounds
+  pub free_row_added : (name : List ℕ) (new : Draft) → new.begun ≡ draft.begun → new.awaits_sense ≡ draft.awaits_sense → new.set ≡ draft.set → new.named ≡ draft.named → new.bounds ≡ draft.bounds
       → new.deck ≡ objective_after draft.free_rows.keys draft.deck name → new.free_rows.keys ≡ draft.free_rows.keys ++ name ∷ [] → IsDraftOf new (with_free_row s name)
-  free_row_added name new begun set named bounds deck keys =
-      grown new (objective_after s.free_rows s.deck name) (s.free_rows ++ name ∷ []) begun set named bounds
+  free_row_added name new begun awaits set named bounds deck keys =
+      grown new (objective_after s.free_rows s.deck name) (s.free_rows ++ name ∷ []) begun awaits set named bounds
       (ap₂ (λ names d. objective_after names d name) h.free_rows h.deck
       ∙ deck_after draft.free_rows.keys draft.deck name draft.bounds.items
       ∙ ap₂ (λ d names. deck_with d names draft.bounds.items) (sym deck) (sym keys)
@@ -125,10 +115,10 @@ module _ (draft : Draft) (s : DeckSoFar) (h : IsDraftOf draft s) (at : InRows dr
       (ap (λ d. d.objective) deck ∙ name_after draft.free_rows.keys draft.deck name no_objective_name h.objective ∙ ap (λ names. slice_index_or names 0 no_objective_name) (sym keys))
 
   -- a row more
-  pub row_added : (name : List ℕ) (kind : RowKind) (new : Draft) → new.begun ≡ draft.begun → new.set ≡ draft.set → new.named ≡ draft.named → new.bounds ≡ draft.bounds
+  pub row_added : (name : List ℕ) (kind : RowKind) (new : Draft) → new.begun ≡ draft.begun → new.awaits_sense ≡ draft.awaits_sense → new.set ≡ draft.set → new.named ≡ draft.named → new.bounds ≡ draft.bounds
       → new.deck ≡ with_row draft.deck name kind → new.free_rows ≡ draft.free_rows → IsDraftOf new (record s { deck = with_row s.deck name kind })
-  row_added name kind new begun set named bounds deck free_rows =
-      grown new (with_row s.deck name kind) s.free_rows begun set named bounds
+  row_added name kind new begun awaits set named bounds deck free_rows =
+      grown new (with_row s.deck name kind) s.free_rows begun awaits set named bounds
       (ap (λ d. with_row d name kind) h.deck
       ∙ ap₂ (λ d names. deck_with d names.keys draft.bounds.items) (sym deck) (sym free_rows)
       ∙ ap (λ b. deck_with new.deck new.free_rows.keys b.items) (sym bounds))
@@ -136,12 +126,12 @@ module _ (draft : Draft) (s : DeckSoFar) (h : IsDraftOf draft s) (at : InRows dr
       (ap (λ d. d.columns) deck)
       (ap (λ d. d.objective) deck ∙ h.objective ∙ ap (λ names. slice_index_or names.keys 0 no_objective_name) (sym free_rows))
 
-  -- a short name that stands for nothing is no row's and not the objective's
-  pub fresh : (name : List ℕ) → length name ≤ 8 → place_of s name ≡ None → is_row_name draft.deck name ≡ false
-  fresh name short none =
+  -- a name that a card may spell and that stands for nothing is no row's and not the objective's
+  pub fresh : (name : List ℕ) → IsSpelled name → place_of s name ≡ None → is_row_name draft.deck name ≡ false
+  fresh name spelled none =
       let apart = unplaced draft s h name none in
       let objective : same_bytes draft.deck.objective name ≡ false =
-      ap (λ n. same_bytes n name) h.objective ∙ first_apart draft.free_rows.keys name no_objective_name apart.1 (short_apart name short) in
+      ap (λ n. same_bytes n name) h.objective ∙ first_apart draft.free_rows.keys name no_objective_name apart.1 spelled in
       ap₂ (λ a b. a || b) objective (ap is_some apart.0)
 
   row_count : length s.deck.rows ≡ length draft.deck.rows

@@ -4,7 +4,7 @@ use Rattle.std.specs.List.{list_any}
 use Rattle.std.proofs.lemmas.Bool.{and_parts}
 use Rattle.lp_model.specs.Edit.{same_bytes}
 use Rattle.mps_model.specs.declared.Section.{Section}
-use Rattle.mps_model.specs.declared.Section.TheVariants.{Bounds, Columns, Finish, Ranges, RightSides, Rows, Title}
+use Rattle.mps_model.specs.declared.Section.TheVariants.{Bounds, Columns, Finish, ObjectiveSense, Ranges, RightSides, Rows, Title}
 use Rattle.mps_model.specs.Sections.{has_begun, may_begin, word_of}
 use Rattle.mps_reader.specs.Inner.Standing.{IsOrdered}
 
@@ -19,6 +19,7 @@ rows_first [] ordered h = h
 rows_first (Title ∷ begun) ordered h = rows_first begun ordered.1 h
 rows_first (Rows ∷ begun) ordered h = refl
 rows_first (Columns ∷ begun) ordered h = (and_parts (has_begun Rows begun) (not (has_begun Columns begun)) ordered.0).0
+rows_first (ObjectiveSense ∷ begun) ordered h = rows_first begun ordered.1 h
 rows_first (RightSides ∷ begun) ordered h = rows_first begun ordered.1 h
 rows_first (Ranges ∷ begun) ordered h = rows_first begun ordered.1 h
 rows_first (Bounds ∷ begun) ordered h = rows_first begun ordered.1 h

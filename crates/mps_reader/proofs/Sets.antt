@@ -15,6 +15,7 @@ module _ (draft : Draft) (s : DeckSoFar) (h : IsDraftOf draft s) (name : List â„
   with_set-stands set is = record {
     begun = h.begun;
     deck = h.deck;
+    awaits = h.awaits;
     free_rows = h.free_rows;
     set = sym is;
     named = h.named;

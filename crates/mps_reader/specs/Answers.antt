@@ -4,6 +4,7 @@ use Rattle.io_ends.specs.Bytes.{Gives}
 use Rattle.lp_text.specs.Limits.{byte_limit}
 use Rattle.mps_cards.specs.ReaderState.{ReaderState}
 use Rattle.mps_cards.specs.declared.faults.ReadFault.TheVariants.{Read, TooMany}
+use Rattle.lp_text.specs.declared.Form.{Form}
 use Rattle.lp_text.specs.declared.LineFault.TheVariants.{Limit}
 use Rattle.lp_text.specs.declared.Counted.TheVariants.{Bytes}
 use Rattle.mps_model.specs.DeckOf.{TextFault, HasFault, IsOpen, crossed_bounds, in_line, no_end, no_objective}
@@ -18,8 +19,8 @@ pub record IsFresh (reader : ReaderState) : Type 0 where
   pub since : reader.since ≡ 0
 
 -- a fault of the text is its first; want of memory and a failed read are none of the text
-abbrev pub IsFaultOf : Option (List ℕ) → DeckFault → Type 0
-IsFaultOf text fault = IfSome (text_fault fault) (λ first. IfSome text (λ t. HasFault t first))
+abbrev pub IsFaultOf : Form → Option (List ℕ) → DeckFault → Type 0
+IsFaultOf form text fault = IfSome (text_fault fault) (λ first. IfSome text (λ t. HasFault form t first))
 
 -- a reader that has given no fault, and has answered so many lines
 pub record HasAnswered (n : ℕ) (reader : ReaderState) : Type 0 where
@@ -42,22 +43,22 @@ pub record StandsAfter (given : DeckFault) (reader : ReaderState) : Type 0 where
   pub found : IfSome (text_fault given) (λ first. StandsAt first reader)
 
 -- a read is needed to go on after these bytes: none of their whole lines has a fault or ends the deck, and they are no more than a deck may have
-pub record IsReadNeeded (bytes : List ℕ) : Type 0 where
-  pub lines : IsOpen bytes
+pub record IsReadNeeded (form : Form) (bytes : List ℕ) : Type 0 where
+  pub lines : IsOpen form bytes
   pub within : length bytes ≤ byte_limit
 
 -- a read failed that was needed after what was kept and what was taken
-abbrev pub IsReadFault : List ℕ → Option (List ℕ) → Option (List ℕ) → Type 0
-IsReadFault kept old new = IfSome old (λ text. (taken : List ℕ) × Gives (Some text) new taken × IsReadNeeded (kept ++ taken))
+abbrev pub IsReadFault : Form → List ℕ → Option (List ℕ) → Option (List ℕ) → Type 0
+IsReadFault form kept old new = IfSome old (λ text. (taken : List ℕ) × Gives (Some text) new taken × IsReadNeeded form (kept ++ taken))
 
 -- the bytes taken from a source that had this text left came by reads that were needed, the last of up to 4,096 bytes
-pub record ReadsAsNeeded (kept text : List ℕ) (new : Option (List ℕ)) : Type 0 where
+pub record ReadsAsNeeded (form : Form) (kept text : List ℕ) (new : Option (List ℕ)) : Type 0 where
   pub earlier : List ℕ
   pub last : List ℕ
   pub given : Gives (Some text) new (earlier ++ last)
   pub few : length last ≤ 4096
-  pub needed : earlier ++ last ≢ [] → IsReadNeeded (kept ++ earlier)
+  pub needed : earlier ++ last ≢ [] → IsReadNeeded form (kept ++ earlier)
 
 -- the source was read as needed, where it tells what it had left
-abbrev pub IsReadAsNeeded : List ℕ → Option (List ℕ) → Option (List ℕ) → Type 0
-IsReadAsNeeded kept old new = IfSome old (λ text. ReadsAsNeeded kept text new)
+abbrev pub IsReadAsNeeded : Form → List ℕ → Option (List ℕ) → Option (List ℕ) → Type 0
+IsReadAsNeeded form kept old new = IfSome old (λ text. ReadsAsNeeded form kept text new)

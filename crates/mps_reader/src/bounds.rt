@@ -9,11 +9,11 @@ ghost use Rattle.mps_reader.specs.Inner.Refusals.{line_fault};
 ghost use Rattle.mps_reader.specs.Inner.Standing.{IsFound, Judged, IsDraftOf, interval_of};
 
 use crate::draft::Draft;
+use crate::fields::CardFields;
 use crate::refusal::Refusal;
 use deck_model::{End, Name};
 use exact_frac::Frac;
 use lp_text::LineFault;
-use mps_cards::Fields;
 use mps_model::BoundKind;
 use number_fields::field;
 use std::alloc::Global;
@@ -57,7 +57,7 @@ fn above_infinity(value: Frac) -> Option<Frac>
 
 // The kind of a word.
 #[tactic(auto, using(crate::proofs::BoundWords::no_kind))]
-fn kind_of(word: &[u8]) -> Result<BoundKind, Refusal>
+pub(crate) fn kind_of(word: &[u8]) -> Result<BoundKind, Refusal>
     ensures { MatchResult result (λ kind. kind_of word.now ≡ Ok kind) (λ refusal. IsFound (kind_of word.now) (line_fault refusal)) }
 {
     match word {
@@ -73,7 +73,7 @@ fn kind_of(word: &[u8]) -> Result<BoundKind, Refusal>
 }
 
 // Whether a bound of the kind has a number.
-fn has_number(kind: BoundKind) -> bool
+pub(crate) fn has_number(kind: BoundKind) -> bool
     ensures { result ≡ has_number kind }
 {
     matches!(kind, BoundKind::Upper | BoundKind::Lower | BoundKind::Fixed)
@@ -187,7 +187,7 @@ impl Ends {
 
 impl Draft {
     // Takes a bound.
-    pub(crate) fn take_bound(&mut self, alloc: Global, fields: &Fields) -> Result<(), Refusal>
+    pub(crate) fn take_bound(&mut self, alloc: Global, fields: &CardFields) -> Result<(), Refusal>
         requires { (s : DeckSoFar) × IsDraftOf self.old s }
         ensures { (s : DeckSoFar) → IsDraftOf self.old s → Judged (judge_bound s fields.now) self.new result }
     {

@@ -1,9 +1,10 @@
-//! Decks in fixed MPS, read from a source.
+//! Decks in fixed MPS and in free form, read from a source.
 //!
 //! # The form
 //!
-//! A deck is a text of cards in fixed columns, in the sections `NAME`, `ROWS`, `COLUMNS`, `RHS`, `RANGES`, `BOUNDS` and
-//! `ENDATA` (IBM, Mathematical Programming System/360, 1969, as planners' programs still write it). The definitions are those
+//! A deck is a text of cards in the sections `NAME`, `OBJSENSE`, `ROWS`, `COLUMNS`, `RHS`, `RANGES`, `BOUNDS` and `ENDATA`, in
+//! fixed columns (IBM, Mathematical Programming System/360, 1969, as planners' programs still write it) or in free form, where
+//! blanks stand between the fields. The definitions are those
 //! of `mps_model`: `judge_line` says what a line makes of the deck so far, or its first fault, and `reading_of` which deck, or
 //! which first fault, a whole text is.
 //!
@@ -20,9 +21,9 @@
 //! end it has given none. Where it has given none, the lines behind those that it has answered are left to read. After a failed
 //! read, and at the limit of bytes, it gives that fault again (`StandsAfter`).
 //!
-//! No more of a line is kept than its columns, however long it is.
+//! No more of a line is kept than its columns, or in free form 256 bytes, however long it is.
 //!
-//! The crate stands on `mps_cards` for lines and cards, on `number_fields` for numbers, on `deck_model` for the deck, on
+//! The crate stands on `mps_cards` for lines and cards, on `mps_free` for cards in free form and the words of a sense, on `number_fields` for numbers, on `deck_model` for the deck, on
 //! `mps_model`, `lp_text` and `lp_model` for the definitions, on `sparse_cols` for the rows that a column has named, and on `io_ends`,
 //! `exact_frac`, `no_memory`, `indexmap` and `thiserror`.
 #![tactic(auto)]
@@ -30,7 +31,9 @@
 mod bounds;
 mod draft;
 mod faults;
+mod fields;
 mod finish;
+mod lines;
 mod pairs;
 mod reading;
 mod refusal;

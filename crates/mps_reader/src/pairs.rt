@@ -1,20 +1,19 @@
 // Cards with pairs of a row's name and a number: those of the columns, of the right sides and of the ranges.
-ghost use Rattle.std.specs.Prelude.{◌≡◌, ◌<◌, ◌||◌, MatchBool, None, OnOk, length};
+ghost use Rattle.std.specs.Prelude.{◌≡◌, ◌<◌, MatchBool, None, OnOk, length};
 ghost use Rattle.lp_model.specs.Edit.{find_column};
-ghost use Rattle.lp_text.specs.Cards.{field_of};
 ghost use Rattle.mps_model.specs.DeckSoFar.{DeckSoFar};
-ghost use Rattle.mps_model.specs.PairCards.{at_column, begin_column, has_second_pair, is_marker, judge_column, judge_pair, judge_pairs};
+ghost use Rattle.mps_model.specs.PairCards.{at_column, begin_column, has_second_pair, judge_column, judge_pair, judge_pairs};
 ghost use Rattle.mps_reader.specs.Inner.Uses.{use_is};
 ghost use Rattle.mps_reader.specs.Inner.Placed.{IsAmongRows, IsRoom, IsVacant, IsVacantFor, deck_after, has_room_at, has_room_for, has_room_in, with_number, with_range_at, with_right_at};
 ghost use Rattle.mps_reader.specs.Inner.Standing.{InColumns, IsLast, Judged, MayUse, IsDraftOf};
 
 use crate::bounds::Ends;
 use crate::draft::{Draft, Place};
+use crate::fields::CardFields;
 use crate::refusal::Refusal;
 use deck_model::{EditFault, Name};
 use exact_frac::Frac;
 use lp_text::{COLUMN_LIMIT, Counted, ENTRY_LIMIT, LineFault};
-use mps_cards::Fields;
 use number_fields::field;
 use std::alloc::Global;
 
@@ -39,23 +38,8 @@ impl From<EditFault> for Refusal {
     }
 }
 
-// Whether the text marks integer columns.
-#[tactic(auto, using(crate::proofs::Marks::same))]
-fn is_marker(text: &[u8]) -> bool
-    ensures { result ≡ is_marker text.now }
-{
-    text == b"'MARKER'".as_slice()
-}
-
-// Whether a card marks integer columns.
-fn has_marker(fields: &Fields) -> bool
-    ensures { result ≡ (is_marker (field_of fields.now 3) || is_marker (field_of fields.now 4)) }
-{
-    is_marker(fields.get(3)) || is_marker(fields.get(4))
-}
-
 // Whether a card has a second pair.
-fn has_second_pair(fields: &Fields) -> bool
+fn has_second_pair(fields: &CardFields) -> bool
     ensures { result ≡ has_second_pair fields.now }
 {
     !fields.get(5).is_empty() || !fields.get(6).is_empty()
@@ -63,14 +47,11 @@ fn has_second_pair(fields: &Fields) -> bool
 
 impl Draft {
     // Takes a card of a column.
-    pub(crate) fn take_column(&mut self, alloc: Global, fields: &Fields) -> Result<(), Refusal>
+    pub(crate) fn take_column(&mut self, alloc: Global, fields: &CardFields) -> Result<(), Refusal>
         requires stands { (s : DeckSoFar) × IsDraftOf self.old s }
         requires at { InColumns self.old }
         ensures { (s : DeckSoFar) → IsDraftOf self.old s → Judged (judge_column s fields.now) self.new result }
     {
-        if has_marker(fields) {
-            return Err(Refusal::Fault(LineFault::Integer));
-        }
         self.at_column(alloc, fields.get(2))?;
         self.take_pairs(alloc, Use::InColumn, fields)
     }
@@ -125,7 +106,7 @@ impl Draft {
         &mut self,
         alloc: Global,
         how: Use,
-        fields: &Fields,
+        fields: &CardFields,
     ) -> Result<(), Refusal>
         requires stands { (s : DeckSoFar) × IsDraftOf self.old s }
         requires may { MayUse how self.old }

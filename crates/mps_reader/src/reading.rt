@@ -8,26 +8,28 @@ ghost use Rattle.lp_text.specs.Limits.{byte_limit};
 ghost use Rattle.lp_text.specs.Lines.{Line as TextLine};
 ghost use Rattle.mps_model.specs.DeckOf.{IsDeckOf};
 ghost use Rattle.mps_model.specs.DeckSoFar.{DeckSoFar};
-ghost use Rattle.mps_model.specs.Judgement.{judge_columns};
+ghost use Rattle.mps_model.specs.Judgement.{bytes_counted, judge_text};
 ghost use Rattle.mps_reader.specs.Answers.{IsFaultOf, IsFresh, IsReadAsNeeded, IsReadFault, StandsAfter};
-ghost use Rattle.mps_reader.specs.Inner.Reached.{HasColumnsOf, IsLineCause, TakesLine};
+ghost use Rattle.mps_reader.specs.Inner.Reached.{HasBytesOf, IsLineCause, TakesLine, kept_size};
 ghost use Rattle.mps_reader.specs.Inner.Standing.{IsDraftOf};
 
 use crate::draft::Draft;
 use crate::faults::DeckFault;
+use crate::lines::kept_size;
 use deck_model::Deck;
 use io_ends::Source;
-use lp_text::{BYTE_LIMIT, Counted, LineFault};
-use mps_cards::{CardFault, Line, LineReader, ReadFault, split};
+use lp_text::{BYTE_LIMIT, Counted, Form, LineFault};
+use mps_cards::{Line, LineReader, ReadFault};
 use std::alloc::Global;
 
-// How many columns of a line are kept.
-const COLUMNS: usize = 61;
-
 // The next line of the input.
-fn next_line<S: Source>(lines: &mut LineReader, source: &mut S) -> Result<Line, DeckFault>
+fn next_line<S: Source>(
+    lines: &mut LineReader,
+    source: &mut S,
+    form: Form,
+) -> Result<Line, DeckFault>
     requires { lines.old.fault ≡ None }
-    ensures line { IfOk result (AnswersLine lines.old lines.new (S.remaining source.old) (S.remaining source.new) 61 byte_limit) }
+    ensures line { IfOk result (AnswersLine lines.old lines.new (S.remaining source.old) (S.remaining source.new) (kept_size form) byte_limit) }
     ensures fault { IfErr result (IsLineCause lines.old (S.remaining source.old) (S.remaining source.new) (S.fault_count source.old) (S.fault_count source.new)) }
     ensures after { IfErr result (λ fault. StandsAfter fault lines.new) }
     ensures unmoved { OnErr result (lines.new.fault ≡ None → (lines.new ≡ lines.old) × (S.remaining source.new ≡ S.remaining source.old)) }
@@ -35,7 +37,7 @@ fn next_line<S: Source>(lines: &mut LineReader, source: &mut S) -> Result<Line, 
     ensures stays { ¬ IsErrOf result DeckFault.Read → S.fault_count source.new ≡ S.fault_count source.old }
     ensures never_falls { S.fault_count source.old ≤ S.fault_count source.new }
 {
-    match lines.line(source, COLUMNS, BYTE_LIMIT) {
+    match lines.line(source, kept_size(form), BYTE_LIMIT) {
         Ok(Some(line)) => Ok(line),
         Ok(None) => Err(DeckFault::NoEnd(lines.lines())),
         Err(ReadFault::Memory) => Err(DeckFault::Memory),
@@ -48,26 +50,20 @@ fn next_line<S: Source>(lines: &mut LineReader, source: &mut S) -> Result<Line, 
 }
 
 // Takes the card of a line, if it is one.
-fn take_line(alloc: Global, draft: &mut Draft, line: &Line) -> Result<(), DeckFault>
+fn take_line(alloc: Global, draft: &mut Draft, line: &Line, form: Form) -> Result<(), DeckFault>
     requires stands { (s : DeckSoFar) × IsDraftOf draft.old s }
-    requires columns { (whole : TextLine) × HasColumnsOf line.now whole }
-    ensures taken { (s : DeckSoFar) (whole : TextLine) → IsDraftOf draft.old s → HasColumnsOf line.now whole
-        → TakesLine line.now.number (judge_columns s whole.bytes) draft.new result }
+    requires bytes { (whole : TextLine) × HasBytesOf form line.now whole }
+    ensures taken { (s : DeckSoFar) (whole : TextLine) → IsDraftOf draft.old s → HasBytesOf form line.now whole
+        → TakesLine line.now.number (judge_text form s (bytes_counted form whole.bytes)) draft.new result }
     ensures no_read { ¬ IsErrOf result DeckFault.Read }
 {
-    let card = match split(alloc, line) {
-        Ok(Some(card)) => card,
-        Ok(None) => return Ok(()),
-        Err(CardFault::Memory) => return Err(DeckFault::Memory),
-        Err(CardFault::InLine(line, fault)) => return Err(DeckFault::InLine(line, fault)),
-    };
-    match draft.take(alloc, &card) {
+    match draft.take_line(alloc, line, form) {
         Ok(()) => Ok(()),
         Err(refusal) => Err(refusal.at(line.number)),
     }
 }
 
-/// Reads a deck from the lines of a reader that has answered none. The line that ends the deck is the last that is read.
+/// Reads a deck of a form from the lines of a reader that has answered none. The line that ends the deck is the last that is read.
 ///
 /// The source is read only as needed (`needed`): before the last read, of up to 4,096 bytes, no line that stands whole in the
 /// bytes that were kept and read has a fault, none ends the deck, and the bytes are no more than a deck may have.
@@ -86,16 +82,17 @@ pub fn read_deck<S: Source>(
     alloc: Global,
     lines: &mut LineReader,
     source: &mut S,
+    form: Form,
 ) -> Result<Deck, DeckFault>
     requires { IsFresh lines.old }
-    ensures deck { IfOk result (λ d. IfSome (prepend_known lines.old.kept (S.remaining source.old)) (λ text. IsDeckOf text d lines.new.count)) }
+    ensures deck { IfOk result (λ d. IfSome (prepend_known lines.old.kept (S.remaining source.old)) (λ text. IsDeckOf form text d lines.new.count)) }
     ensures rest { lines.new.fault ≡ None → lines_left lines.new.kept (S.remaining source.new)
         ≡ option_map (drop lines.new.count) (lines_left lines.old.kept (S.remaining source.old)) }
     ensures sound { OnOk result (lines.new.fault ≡ None) }
     ensures after { IfErr result (λ fault. StandsAfter fault lines.new) }
-    ensures fault { IfErr result (IsFaultOf (prepend_known lines.old.kept (S.remaining source.old))) }
-    ensures needed { IsReadAsNeeded lines.old.kept (S.remaining source.old) (S.remaining source.new) }
-    ensures read { IsErrOf result DeckFault.Read → IsReadFault lines.old.kept (S.remaining source.old) (S.remaining source.new) }
+    ensures fault { IfErr result (IsFaultOf form (prepend_known lines.old.kept (S.remaining source.old))) }
+    ensures needed { IsReadAsNeeded form lines.old.kept (S.remaining source.old) (S.remaining source.new) }
+    ensures read { IsErrOf result DeckFault.Read → IsReadFault form lines.old.kept (S.remaining source.old) (S.remaining source.new) }
     ensures rose { IsErrOf result DeckFault.Read → Rose (S.fault_count source.old) (S.fault_count source.new) }
     ensures stays { ¬ IsErrOf result DeckFault.Read → S.fault_count source.new ≡ S.fault_count source.old }
     ensures never_falls { S.fault_count source.old ≤ S.fault_count source.new }
@@ -104,11 +101,11 @@ pub fn read_deck<S: Source>(
         return Err(DeckFault::Memory);
     };
     'lines: loop {
-        let line = match next_line(lines, source) {
+        let line = match next_line(lines, source, form) {
             Ok(line) => line,
             Err(fault) => return Err(fault),
         };
-        if let Err(fault) = take_line(alloc, &mut draft, &line) {
+        if let Err(fault) = take_line(alloc, &mut draft, &line, form) {
             return Err(fault);
         }
         if draft.has_finished() {

@@ -5,6 +5,8 @@ ghost use Rattle.mps_reader.specs.Inner.Refusals.{at_line};
 use crate::faults::DeckFault;
 use deck_model::Memory;
 use lp_text::LineFault;
+use mps_cards::CardFault;
+use mps_free::FreeFault;
 use std::alloc::{AllocError, AllocFailed};
 
 // Why a card is refused: memory ran out, or its first fault after the cards before it.
@@ -33,6 +35,33 @@ impl From<Memory> for Refusal {
 
     fn from(_refusal: Memory) -> Refusal {
         Refusal::Memory
+    }
+}
+
+impl From<CardFault> for Refusal {
+    ghost use Rattle.mps_reader.specs.Inner.Refusals.{card_refusal};
+
+    ghost from_gives = { λ fault refusal. refusal ≡ card_refusal fault };
+
+    fn from(fault: CardFault) -> Refusal {
+        match fault {
+            CardFault::Memory => Refusal::Memory,
+            CardFault::InLine(_, fault) => Refusal::Fault(fault),
+        }
+    }
+}
+
+impl From<FreeFault> for Refusal {
+    ghost use Rattle.mps_reader.specs.Inner.Refusals.{free_refusal};
+
+    ghost from_gives = { λ fault refusal. refusal ≡ free_refusal fault };
+
+    fn from(fault: FreeFault) -> Refusal {
+        match fault {
+            FreeFault::Memory => Refusal::Memory,
+            FreeFault::NotAscii(_) => Refusal::Fault(LineFault::NotAscii),
+            FreeFault::Token(_) => Refusal::Fault(LineFault::Token),
+        }
     }
 }
 

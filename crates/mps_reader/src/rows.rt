@@ -1,16 +1,16 @@
 // Cards of the rows.
-ghost use Rattle.std.specs.Prelude.{◌≡◌, ◌≤◌, None, length};
+ghost use Rattle.std.specs.Prelude.{◌≡◌, None};
 ghost use Rattle.lp_text.specs.Cards.{field_of};
 ghost use Rattle.mps_model.specs.DeckSoFar.{DeckSoFar, place_of};
 ghost use Rattle.mps_model.specs.declared.RowType.TheVariants.{Free, Kept};
 ghost use Rattle.mps_model.specs.RowCards.{judge_row, row_type_of, with_row_of};
-ghost use Rattle.mps_reader.specs.Inner.Standing.{InRows, Judged, IsDraftOf};
+ghost use Rattle.mps_reader.specs.Inner.Standing.{InRows, IsSpelled, Judged, IsDraftOf};
 
 use crate::draft::Draft;
+use crate::fields::CardFields;
 use crate::refusal::Refusal;
 use deck_model::{Name, RowKind};
 use lp_text::{Counted, LineFault, ROW_LIMIT};
-use mps_cards::Fields;
 use mps_model::RowType;
 use std::alloc::Global;
 
@@ -28,11 +28,11 @@ fn row_type_of(word: &[u8]) -> Option<RowType>
 }
 
 impl Draft {
-    // Takes a card of the rows, whose name has at most 8 bytes.
-    pub(crate) fn take_row(&mut self, alloc: Global, fields: &Fields) -> Result<(), Refusal>
+    // Takes a card of the rows, whose name a card may spell.
+    pub(crate) fn take_row(&mut self, alloc: Global, fields: &CardFields) -> Result<(), Refusal>
         requires stands { (s : DeckSoFar) × IsDraftOf self.old s }
         requires rows { InRows self.old }
-        requires short { length (field_of fields.now 2) ≤ 8 }
+        requires spelled { IsSpelled (field_of fields.now 2) }
         ensures { (s : DeckSoFar) → IsDraftOf self.old s → Judged (judge_row s fields.now) self.new result }
     {
         let Some(kind) = row_type_of(fields.get(1)) else {
@@ -65,7 +65,7 @@ impl Draft {
     fn add_row(&mut self, name: Name, kind: RowKind) -> Result<(), Refusal>
         requires stands { (s : DeckSoFar) × IsDraftOf self.old s × (place_of s name ≡ None) }
         requires rows { InRows self.old }
-        requires short { length name ≤ 8 }
+        requires spelled { IsSpelled name }
         ensures { (s : DeckSoFar) → IsDraftOf self.old s → place_of s name ≡ None → Judged (with_row_of s name (Kept kind)) self.new result }
     {
         if self.deck.rows() >= ROW_LIMIT {

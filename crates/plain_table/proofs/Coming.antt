@@ -12,7 +12,7 @@ use Rattle.rational.specs.Sum.{at}
 use Rattle.rational.proofs.OrderLaws.{eq_ℚ-decides}
 use Rattle.bland_ratio.specs.Leave.{direction_where}
 use Rattle.lp_run.specs.Instance.{Instance, bounds, row_count}
-use Rattle.lp_run.specs.Listing.{AllFit, Listed, first_unfit, move_listing, place, ratio_listing}
+use Rattle.lp_run.specs.Listing.{AllFit, Listed, first_unfit, move_listing, place, ratio_listing, Judges}
 use Rattle.lp_run.specs.Solution.{reduced}
 use Rattle.lp_run.specs.State.{State, basic}
 use Rattle.lp_run.specs.Step.{Enters, IsArtificial, IsFree, IsLimit, Leaves, Limit, Pivoting, direction, distance_at, limit_at, own_limit}
@@ -21,7 +21,6 @@ use Rattle.bland_laws.proofs.Searches.{Below, FirstOrNone, first_below, one_more
 use Rattle.bland_ratio.specs.declared.ratio_test.Leave.{Leave}
 use Rattle.bland_ratio.specs.declared.ratio_test.Leave.TheVariants as leave
 use Rattle.lp_run.proofs.Regularity.{column_solves}
-use Rattle.plain_table.specs.Inner.Lines.{Judges}
 use Rattle.plain_table.specs.Inner.Next.{DecidesAt, HasUnfitRatio, StandsOff, next_by}
 use Rattle.plain_table.specs.Next.{ComesNext, OverflowsNext, column, prices}
 use Rattle.plain_table.specs.Plain.{Plain, Stands, cell}
@@ -77,6 +76,19 @@ free_fits w inst k s q t β α free =
     (λ d. record { ratio = d.0 /ℚ abs_ℚ (at α p); column = basic s p; entry = Swap q p d.1 }) (distance_at inst s t β α p) (λ limit e. free limit (inl (p, b, e)))))
     (own_fits w (place k kind.Ratio None (Some q)) q (bounds inst s.phase q).lower (bounds inst s.phase q).upper (λ limit e. free limit (inr e)))
 
+-- a step that has a ratio has a limit that decides it
+pub limited : (w : ℕ) (inst : Instance) (k : ℕ) (s : State) (q : ℕ) (t : ℚ) (β α : List ℚ) (here : Place) → first_unfit w (ratio_listing inst k s q t β α) ≡ Some here
+    → (limit : Limit) × Leaves inst s q t β α limit
+limited w inst k s q t β α here unfit =
+    by_first (one_more (Below (limit_at inst s q t β α) (row_count inst)) (first_below (row_count inst) (limit_at inst s q t β α)) (own_limit (bounds inst s.phase q) q))
+  where
+    apart : None ≡ Some here → ⊥
+    apart e = cc e
+
+    by_first : FirstOrNone (IsLimit inst s q t β α) → (limit : Limit) × Leaves inst s q t β α limit
+    by_first (inl (limit, first)) = (limit, record { is_limit = first.is; first = first.first })
+    by_first (inr none) = absurd (apart (sym (free_fits w inst k s q t β α none) ∙ unfit))
+
 module _ (inst : Instance) (log : List Entry) (t : Plain) (stands : Stands inst log t) (q : ℕ) (enters : Enters inst t.state (prices inst t) q) where
   pivoting : Pivoting inst t.state (prices inst t) t.values (column inst t q) q
   pivoting = record {
@@ -120,33 +132,16 @@ module _ (inst : Instance) (log : List Entry) (t : Plain) (stands : Stands inst 
   pub overflows_next : (w : ℕ) (here : Place) → HasUnfitRatio w inst t q here → OverflowsNext w inst t here
   unfolding way
   overflows_next w here unfit =
-      by_first (one_more (Below (limit_at inst t.state q way t.values (column inst t q)) (row_count inst))
-      (first_below (row_count inst) (limit_at inst t.state q way t.values (column inst t q))) (own_limit (bounds inst t.state.phase q) q))
-    where
-      ratios_unfit : first_unfit w (ratio_listing inst t.number t.state q way t.values (column inst t q)) ≡ Some here
-      ratios_unfit = subst (λ c. first_unfit w (ratio_listing inst t.number t.state q c t.values (column inst t q)) ≡ Some here) same_way unfit
-
-      apart : None ≡ Some here → ⊥
-      apart e = cc e
-
-      by_first : FirstOrNone (IsLimit inst t.state q way t.values (column inst t q)) → OverflowsNext w inst t here
-      by_first (inl (limit, first)) =
-          let moves = move_listing inst t.number t.state (cell t) t.values (column inst t q) (reduced inst t.state (prices inst t)) q way limit.ratio limit.entry in (
-            ratio_listing inst t.number t.state q way t.values (column inst t q) ++ moves,
-            inl (
-              cell t,
-              record {
-                prices = prices inst t;
-                values = t.values;
-                column = column inst t q;
-                entering = q;
-                limit = limit;
-                pivoting = pivoting;
-                leaves = record { is_limit = first.is; first = first.first };
-              },
-              stands.table.columns,
-              refl,
-            ),
-            unfit-append w (ratio_listing inst t.number t.state q way t.values (column inst t q)) moves here ratios_unfit,
-          )
-      by_first (inr none) = absurd (apart (sym (free_fits w inst t.number t.state q way t.values (column inst t q) none) ∙ ratios_unfit))
+      let ratios_unfit : first_unfit w (ratio_listing inst t.number t.state q way t.values (column inst t q)) ≡ Some here =
+      subst (λ c. first_unfit w (ratio_listing inst t.number t.state q c t.values (column inst t q)) ≡ Some here) same_way unfit in
+      let (limit, leaves) = limited w inst t.number t.state q way t.values (column inst t q) here ratios_unfit in
+      let moves = move_listing inst t.number t.state (cell t) t.values (column inst t q) (reduced inst t.state (prices inst t)) q way limit.ratio limit.entry in (
+        ratio_listing inst t.number t.state q way t.values (column inst t q) ++ moves,
+        inl (
+          cell t,
+          record { prices = prices inst t; values = t.values; column = column inst t q; entering = q; limit = limit; pivoting = pivoting; leaves = leaves },
+          stands.table.columns,
+          refl,
+        ),
+        unfit-append w (ratio_listing inst t.number t.state q way t.values (column inst t q)) moves here ratios_unfit,
+      )

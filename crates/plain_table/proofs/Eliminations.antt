@@ -8,12 +8,12 @@ use Rattle.rational.specs.Sum.{at}
 use Rattle.rational.proofs.OrderLaws.{eq_ℚ-decides, eq_ℚ-other}
 use Rattle.rational.proofs.RationalRing.{ring_ℚ}
 use Rattle.rational.proofs.Ring.{◌≐◌, ◌⊙◌≗◌⟹◌, ◌⊖◌, ◌⊗◌, 𝟘}
-use Rattle.lp_run.specs.Listing.{AllFit, first_unfit, place}
+use Rattle.lp_run.specs.Listing.{AllFit, first_unfit, place, Judges}
 use Rattle.lp_run.proofs.FirstUnfit.{first-flat_map}
 use Rattle.plain_table.proofs.Parts.{same_parts}
 use Rattle.plain_table.proofs.Supports.{unpacked_less}
 use Rattle.rational.specs.Sparse.{upto}
-use Rattle.plain_table.specs.Inner.Lines.{AreLessPacked, IsSupport, Judges, less_listing}
+use Rattle.plain_table.specs.Inner.Lines.{AreLessPacked, IsSupport, less_listing}
 use Rattle.plain_table.specs.Inner.Rows.{AreEliminated, AreTaken, EliminatesRow, IsEliminated, row_listing, rows_listing}
 
 or_true : (s t : Bool) → t ≡ true → (s || t) ≡ true

@@ -5,8 +5,7 @@ use Rattle.std.proofs.lemmas.List.{append_assoc, get_or_append_left, get_or-appe
 use Rattle.lp_model.specs.declared.Place.{Place}
 use Rattle.rational.specs.Rational.{ℚ}
 use Rattle.rational.specs.Sparse.{upto}
-use Rattle.lp_run.specs.Listing.{Listed, first_unfit}
-use Rattle.plain_table.specs.Inner.Lines.{Judges}
+use Rattle.lp_run.specs.Listing.{Listed, first_unfit, Judges}
 use Rattle.plain_table.specs.Inner.Rows.{AreWide, row_listing, rows_listing}
 use Rattle.plain_table.proofs.Parts.{judged_first, judged_next, same_parts}
 

@@ -11,7 +11,7 @@ use Rattle.rational.specs.Sparse.{upto}
 use Rattle.rational.specs.Sum.{at}
 use Rattle.rational.proofs.VectorLaws.{get-map-upto, length-map-upto, list_of}
 use Rattle.lp_run.specs.Instance.{Instance, IsWellFormed, column_count, cost, row_count}
-use Rattle.lp_run.specs.Listing.{Listed, MakingLists, StartFits, AllFit, cost_listing, costs_listing, entries_listing, or_first, place, start_entry, taken, first_unfit}
+use Rattle.lp_run.specs.Listing.{Listed, MakingLists, StartFits, AllFit, cost_listing, costs_listing, entries_listing, or_first, place, start_entry, taken, first_unfit, Judges}
 use Rattle.lp_run.specs.State.{State, basic, start_basic, start_of}
 use Rattle.lp_run.specs.Tableau.{table_cost}
 use Rattle.lp_run.proofs.FirstUnfit.{all-append, fit-append}
@@ -22,7 +22,6 @@ use Rattle.table_laws.specs.Stands.{StandsAt}
 use Rattle.table_laws.proofs.Fitting.{fitted-start}
 use Rattle.table_laws.proofs.Started.{started}
 use Rattle.plain_table.specs.Inner.Costs.{cost_work, costs_work_listing}
-use Rattle.plain_table.specs.Inner.Lines.{Judges}
 use Rattle.plain_table.specs.Inner.Makings.{IsFilled, making_listing}
 use Rattle.plain_table.specs.Inner.Starts.{AreStartRows, basic_start, start_values_listing}
 use Rattle.plain_table.specs.Plain.{IsSized, Plain, Stands, cell}

@@ -25,7 +25,7 @@ use Rattle.plain_table.specs.Inner.Values.{value_work, values_listing}
 use Rattle.plain_table.proofs.Anew.{costs_lists}
 use Rattle.plain_table.proofs.Parts.{same_parts}
 use Rattle.plain_table.proofs.Stepping.{found_limit, move_lists}
-use Rattle.plain_table.proofs.Swaps.{swap_lists, turned_by, value_same}
+use Rattle.plain_table.proofs.Swaps.{flipped_lists, swap_lists, turned_by}
 
 module _ (inst : Instance) (log : List Entry) (s : State) (rows : List (List ℚ)) (values costs : List ℚ)
     (stands : StandsAt inst log s (λ i j. at (get_or rows i []) j) values (at costs))
@@ -72,10 +72,7 @@ module _ (inst : Instance) (log : List Entry) (s : State) (table : ℕ → ℕ �
   -- where no position is taken, each basic value moves
   flip_values : (k p : ℕ) (down : Bool) (v ratio : ℚ) (alpha : List ℚ) → row_count inst ≤ p
       → values_listing k p down v ratio values alpha ≡ flat_map (value_listing k (turned_by down) ratio values alpha) (upto (row_count inst))
-  flip_values k p down v ratio alpha past =
-      ap (λ n. flat_map (λ i. placed (place k kind.Value (Some i) None) (value_work (eqb i p) down v (at values i) (at alpha i) ratio)) (upto n)) each
-      ∙ same_parts _ _ (row_count inst) (λ i b. ap (λ o. placed (place k kind.Value (Some i) None) (value_work o down v (at values i) (at alpha i) ratio)) (ne_eqb i p (omega arith))
-      ∙ value_same k i down ratio (at values i) (at alpha i))
+  flip_values k p down v ratio alpha past = flipped_lists (row_count inst) k p down v ratio values alpha each past
 
   flip : FlipStep inst s q
   flip = flip_step inst s q next

@@ -4,9 +4,8 @@ use Rattle.std.specs.List.{range_with_len}
 use Rattle.std.proofs.lemmas.Result.{err_from_is_err_and}
 use Rattle.lp_model.specs.declared.Place.{Place}
 use Rattle.rational.specs.Sparse.{upto}
-use Rattle.lp_run.specs.Listing.{AllFit, Listed, first_unfit}
+use Rattle.lp_run.specs.Listing.{AllFit, Listed, first_unfit, Judges}
 use Rattle.lp_run.proofs.FirstUnfit.{fit-append, unfit-append}
-use Rattle.plain_table.specs.Inner.Lines.{Judges}
 
 -- ── the same parts list the same ──
 

@@ -6,10 +6,10 @@ use Rattle.lp_model.specs.declared.Place.{Place}
 use Rattle.rational.specs.Rational.{ℚ, zero_ℚ, ◌/ℚ◌}
 use Rattle.rational.specs.Sum.{at}
 use Rattle.rational.proofs.VectorLaws.{same_vectors}
-use Rattle.lp_run.specs.Listing.{AllFit, Listed, first_unfit, place}
+use Rattle.lp_run.specs.Listing.{AllFit, Listed, first_unfit, place, Judges}
 use Rattle.lp_run.proofs.FirstUnfit.{all-append}
 use Rattle.plain_table.specs.declared.pivot.Pivot.{Pivot}
-use Rattle.plain_table.specs.Inner.Lines.{AreDivided, AreLess, Judges, less_listing, quotients_listing}
+use Rattle.plain_table.specs.Inner.Lines.{AreDivided, AreLess, less_listing, quotients_listing}
 use Rattle.plain_table.specs.Inner.Pivots.{ArePivoted, line_listing, pivot_line, quotients, swap_listing}
 use Rattle.plain_table.specs.Inner.Rows.{AreEliminated, rows_listing}
 use Rattle.plain_table.specs.Inner.Values.{AreMoved, values_listing}

@@ -1,5 +1,5 @@
 -- A table that takes in the entries of a log: as long as all fits it stands, and a value that does not fit is the first of all that the log works.
-use Rattle.std.proofs.Common.{◌≡◌, ℕ, suc, ◌+◌, ◌<◌, inl, inr, List, [], ◌∷◌, ◌++◌, length, take, drop, get_or, Some, Result, Ok, Err, IsErrAnd, refl, sym, ◌∙◌, ap, subst, arith}
+use Rattle.std.proofs.Common.{◌≡◌, ℕ, suc, ◌+◌, ◌<◌, ◌⊎◌, inl, inr, List, [], ◌∷◌, ◌++◌, length, take, drop, get_or, Some, Result, Ok, Err, IsErrAnd, refl, sym, ◌∙◌, ap, subst, arith}
 use Rattle.std.proofs.lemmas.List.{append-nil, append_assoc, length-take-le, take-append-drop}
 use Rattle.std.proofs.lemmas.Result.{err_from_is_err_and}
 use Rattle.std.proofs.Math.Seq.{drop-cons, take-suc}
@@ -11,7 +11,7 @@ use Rattle.lp_run.specs.Listing.{Listed, MoveLists, StepLists, StepsList, first_
 use Rattle.lp_run.specs.Run.{IsRun, Leads}
 use Rattle.lp_run.specs.Solution.{IsTable}
 use Rattle.lp_run.specs.State.{State, after, start_of}
-use Rattle.lp_run.specs.Step.{IsNext, StepsBy}
+use Rattle.lp_run.specs.Step.{IsFinal, IsNext, StepsBy}
 use Rattle.lp_run.specs.Tableau.{HasTable}
 use Rattle.lp_run.proofs.FirstUnfit.{fit-append, unfit-append}
 use Rattle.lp_run.proofs.Kept.{after_has_table}
@@ -52,6 +52,12 @@ module _ (inst : Instance) (s : State) (has : HasTable inst s) where
   next_listed k (Flip q) next = let m = move_listed k (Flip q) next in (m.0, inl m.1)
   next_listed k (Swap q p end) next = let m = move_listed k (Swap q p end) next in (m.0, inl m.1)
   next_listed k Turn next = (_, inr (inl (has.table, next, table_there, refl)))
+
+-- something is listed at a state that the run goes on from, or at which it ends
+pub listed_there : (inst : Instance) (k : ℕ) (s : State) → HasTable inst s → ((e : Entry) × IsNext inst s e) ⊎ IsFinal inst s → (vs : List Listed) × StepLists inst k s vs
+listed_there inst k s has (inl (e, next)) = next_listed inst s has k e next
+listed_there inst k s has (inr (inl (y, β, ends))) = (_, inr (inr (inl (y, β, ends, refl))))
+listed_there inst k s has (inr (inr ends)) = ([], inr (inr (inr (ends, refl))))
 
 pub log_listed : (inst : Instance) (k : ℕ) (s : State) (log : List Entry) (t : State) → HasTable inst s → Leads inst s log t → (vs : List Listed) × StepsList inst k s log vs
 log_listed inst k s [] t has leads = ([], refl)

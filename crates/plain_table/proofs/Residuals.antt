@@ -23,15 +23,6 @@ use Rattle.plain_table.specs.Inner.Costs.{factors_from, priced}
 use Rattle.plain_table.specs.Inner.Starts.{residual_work}
 use Rattle.plain_table.proofs.Pricing.{priced_answer}
 
--- an entry that is looked up, or 0
-pub entry_from : (pairs : List (ℕ × ℚ)) (i : ℕ) → unwrap_or (value_at pairs i) zero_ℚ ≡ entry_at pairs i
-entry_from [] i = refl
-entry_from ((k, v) ∷ pairs) i = by_test (eqb k i) (entry_from pairs i)
-  where
-    by_test : (b : Bool) → unwrap_or (value_at pairs i) zero_ℚ ≡ entry_at pairs i → unwrap_or (cond b (Some v) (value_at pairs i)) zero_ℚ ≡ cond b v (entry_at pairs i)
-    by_test true h = refl
-    by_test false h = h
-
 pub structural_bounds : (inst : Instance) (j : ℕ) → j < structural_count inst → bounds inst One j ≡ (structural inst j).bounds
 structural_bounds inst j b = ap (kind_bounds inst One) (kind_of_structural inst j b)
 

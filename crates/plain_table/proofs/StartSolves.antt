@@ -18,18 +18,8 @@ use Rattle.lp_run.specs.Solution.{Values}
 use Rattle.lp_run.proofs.Start.{coefficient-logical, kind_of_artificial, kind_of_structural, pivot_sign, square, start_basis_entry}
 use Rattle.lp_run.proofs.StartStatuses.{start_artificial, start_structural}
 use Rattle.bland_laws.proofs.Shifted.{values_from_rows}
-use Rattle.bland_laws.proofs.Standing.{ends}
+use Rattle.bland_laws.proofs.Starting.{starts_at}
 use Rattle.plain_table.specs.Inner.Starts.{basic_start, logical_rest}
-
--- ── where the columns rest ──
-
-starts_at : (i : Interval) → resting_value (structural_start i) i ≡ start_value i
-starts_at i = by_ends i.lower i.upper
-  where
-    by_ends : (lower upper : Option ℚ) → resting_value (structural_start (ends lower upper)) (ends lower upper) ≡ start_value (ends lower upper)
-    by_ends None None = refl
-    by_ends None (Some u) = refl
-    by_ends (Some l) upper = refl
 
 module _ (inst : Instance) (h : IsWellFormed inst) where
   abbrev start : State

@@ -12,7 +12,7 @@ use Rattle.rational.specs.Sum.{at}
 use Rattle.rational.proofs.VectorLaws.{get-map-upto}
 use Rattle.bland_ratio.specs.Leave.{direction_where}
 use Rattle.lp_run.specs.Instance.{Instance, IsWellFormed, bounds, column_count, cost, row_count}
-use Rattle.lp_run.specs.Listing.{AllFit, Listed, StepLists, first_unfit, move_listing, ratio_listing}
+use Rattle.lp_run.specs.Listing.{AllFit, Listed, StepLists, first_unfit, move_listing, ratio_listing, Judges}
 use Rattle.lp_run.specs.Solution.{reduced}
 use Rattle.lp_run.specs.State.{after, basic, rest}
 use Rattle.lp_run.specs.Tableau.{pivoted}
@@ -28,7 +28,6 @@ use Rattle.plain_table.specs.Inner.Rows.{AreTaken, AreWide}
 use Rattle.plain_table.specs.Answers.{JudgesStep}
 use Rattle.plain_table.specs.Plain.{Plain, Stands, cell}
 use Rattle.plain_table.specs.Inner.Costs.{AreCosts, costs_work_listing}
-use Rattle.plain_table.specs.Inner.Lines.{Judges}
 use Rattle.plain_table.specs.Inner.Steps.{IsDecided, IsMotion, column_of, table_of, test_listing}
 use Rattle.plain_table.specs.Inner.Values.{AreMoved, moved, value_work, values_listing}
 use Rattle.plain_table.proofs.Anew.{costs_are}

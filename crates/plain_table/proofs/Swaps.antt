@@ -1,5 +1,5 @@
 -- What a swap works is what the listing of a move has.
-use Rattle.std.proofs.Common.{◌≡◌, ℕ, ◌<◌, List, [], ◌∷◌, ◌++◌, map, length, get_or, flat_map, Bool, true, false, ◌||◌, cond, eqb, Some, None, refl, sym, ◌∙◌, ap, ap₂, subst}
+use Rattle.std.proofs.Common.{◌≡◌, ℕ, ◌<◌, ◌≤◌, List, [], ◌∷◌, ◌++◌, map, length, get_or, flat_map, Bool, true, false, ◌||◌, cond, eqb, ne_eqb, Some, None, refl, sym, ◌∙◌, ap, ap₂, subst, arith}
 use Rattle.std.proofs.lemmas.List.{get_or-map, length-map}
 use Rattle.std.proofs.lemmas.Bool.{eqb-true}
 use Rattle.lp_model.specs.declared.Entry.TheVariants.{Swap}
@@ -37,6 +37,30 @@ value_same k i down ratio x a = ap (λ t. placed (place k kind.Value (Some i) No
 entered_same : (down : Bool) (v ratio : ℚ) → entered_by down v ratio ≡ entered (turned_by down) v ratio
 entered_same down v ratio = ap (λ t. cond t (v -ℚ ratio) (v +ℚ ratio)) (sym (falls down))
 
+-- ── the basic values after a move of column q, which falls or rises by the ratio ──
+
+module _ (m k p : ℕ) (down : Bool) (v ratio : ℚ) (values alpha : List ℚ) (each : length values ≡ m) where
+  -- where it takes a position
+  pub swapped_lists : values_listing k p down v ratio values alpha
+      ≡ flat_map (λ i. cond (eqb i p) ((place k kind.Value (Some p) None, entered (turned_by down) v ratio) ∷ []) (value_listing k (turned_by down) ratio values alpha i)) (upto m)
+  unfolding work
+  swapped_lists =
+      ap (λ n. flat_map (λ i. placed (place k kind.Value (Some i) None) (value_work (eqb i p) down v (at values i) (at alpha i) ratio)) (upto n)) each
+      ∙ same_parts _ _ m (λ i b. by_test i (eqb i p) refl)
+    where
+      by_test : (i : ℕ) (t : Bool) → eqb i p ≡ t
+          → placed (place k kind.Value (Some i) None) (value_work t down v (at values i) (at alpha i) ratio)
+          ≡ cond t ((place k kind.Value (Some p) None, entered (turned_by down) v ratio) ∷ []) (value_listing k (turned_by down) ratio values alpha i)
+      by_test i true e = ap₂ (λ i v. (place k kind.Value (Some i) None, v) ∷ []) (eqb-true i p e) (entered_same down v ratio)
+      by_test i false e = value_same k i down ratio (at values i) (at alpha i)
+
+  -- where it takes none
+  pub flipped_lists : m ≤ p → values_listing k p down v ratio values alpha ≡ flat_map (value_listing k (turned_by down) ratio values alpha) (upto m)
+  flipped_lists past =
+      ap (λ n. flat_map (λ i. placed (place k kind.Value (Some i) None) (value_work (eqb i p) down v (at values i) (at alpha i) ratio)) (upto n)) each
+      ∙ same_parts _ _ m (λ i b. ap (λ o. placed (place k kind.Value (Some i) None) (value_work o down v (at values i) (at alpha i) ratio)) (ne_eqb i p (omega arith))
+      ∙ value_same k i down ratio (at values i) (at alpha i))
+
 module _ (inst : Instance) (s : State) (k q p : ℕ) (down : Bool) (ratio : ℚ) (rows : List (List ℚ)) (values costs alpha : List ℚ)
     (positions : length rows ≡ row_count inst) (wide : AreWide (column_count inst) rows) (each : length values ≡ row_count inst) (all : length costs ≡ column_count inst) (below : p < length rows)
     (d : ℕ → ℚ) (shown : (j : ℕ) → j < column_count inst → at costs j ≡ d j) (entering : q < column_count inst) where
@@ -69,16 +93,7 @@ module _ (inst : Instance) (s : State) (k q p : ℕ) (down : Bool) (ratio : ℚ)
   values_same : values_listing k p down (rest inst s q) ratio values alpha
       ≡ flat_map (λ i. cond (eqb i p) ((place k kind.Value (Some p) None, entered (turned_by down) (rest inst s q) ratio) ∷ [])
       (value_listing k (turned_by down) ratio values alpha i)) (upto (row_count inst))
-  unfolding work
-  values_same =
-      ap (λ n. flat_map (λ i. placed (place k kind.Value (Some i) None) (value_work (eqb i p) down (rest inst s q) (at values i) (at alpha i) ratio)) (upto n)) each
-      ∙ same_parts _ _ (row_count inst) (λ i b. by_test i (eqb i p) refl)
-    where
-      by_test : (i : ℕ) (t : Bool) → eqb i p ≡ t
-          → placed (place k kind.Value (Some i) None) (value_work t down (rest inst s q) (at values i) (at alpha i) ratio)
-          ≡ cond t ((place k kind.Value (Some p) None, entered (turned_by down) (rest inst s q) ratio) ∷ []) (value_listing k (turned_by down) ratio values alpha i)
-      by_test i true e = ap₂ (λ i v. (place k kind.Value (Some i) None, v) ∷ []) (eqb-true i p e) (entered_same down (rest inst s q) ratio)
-      by_test i false e = value_same k i down ratio (at values i) (at alpha i)
+  values_same = swapped_lists (row_count inst) k p down (rest inst s q) ratio values alpha each
 
   costs_same : less_listing (place k kind.Cost None None) costs (at costs q) by ≡ flat_map
       (λ j. placed (place k kind.Cost None (Some j)) (less (d j) (d q) (pivot_row table p q j))) (upto (column_count inst))

@@ -4,14 +4,13 @@ use Rattle.lp_model.specs.declared.Entry.{Entry}
 use Rattle.lp_model.specs.declared.Place.{Place}
 use Rattle.exact_frac.specs.Count.{raised}
 use Rattle.lp_run.specs.Instance.{Instance}
-use Rattle.lp_run.specs.Listing.{Listed, StepLists}
+use Rattle.lp_run.specs.Listing.{Listed, StepLists, Judges}
 use Rattle.lp_run.specs.Run.{IsRun}
 use Rattle.lp_run.specs.State.{State}
 use Rattle.lp_run.specs.Step.{IsNext}
 use Rattle.table_laws.specs.Fitted.{HasFitted, HasOverflown}
 use Rattle.plain_table.specs.declared.faults.TableFault.{TableFault}
 use Rattle.plain_table.specs.declared.faults.TableFault.TheVariants as fault
-use Rattle.plain_table.specs.Inner.Lines.{Judges}
 use Rattle.plain_table.specs.Plain.{Plain, Stands}
 
 -- the log is the first entries of the instance's run

@@ -6,11 +6,10 @@ ghost use Rattle.rational.specs.Sum.{at};
 ghost use Rattle.rational.specs.Worked.{is_skipped};
 ghost use Rattle.lp_run.specs.Instance.{column_count, cost as cost_of, row_count};
 ghost use Rattle.lp_run.specs.State.{basic};
-ghost use Rattle.lp_run.specs.Listing.{place};
+ghost use Rattle.lp_run.specs.Listing.{place, Judges};
 ghost use Rattle.exact_frac.specs.Count.{unfit_after};
 ghost use Rattle.exact_frac.specs.Settles.{Settles};
 ghost use Rattle.plain_table.specs.Inner.Costs.{AreCosts, HasProduct, cost_work, costs_work_listing, priced, terms_from};
-ghost use Rattle.plain_table.specs.Inner.Lines.{Judges};
 ghost use Rattle.plain_table.specs.Inner.Rows.{AreWide};
 
 use crate::row::Row;

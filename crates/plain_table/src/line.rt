@@ -5,7 +5,8 @@ ghost use Rattle.rational.specs.Worked.{less};
 ghost use Rattle.exact_frac.specs.Count.{unfit_after};
 ghost use Rattle.exact_frac.specs.Exact.{Exact};
 ghost use Rattle.exact_frac.specs.Settles.{Settles};
-ghost use Rattle.plain_table.specs.Inner.Lines.{in_column as there, AreDivided, AreLess, AreLessPacked, AreRising, IsSupport, IsUnpacked, Judges, less_listing, quotients_listing};
+ghost use Rattle.lp_run.specs.Listing.{Judges};
+ghost use Rattle.plain_table.specs.Inner.Lines.{in_column as there, AreDivided, AreLess, AreLessPacked, AreRising, IsSupport, IsUnpacked, less_listing, quotients_listing};
 
 use exact_frac::{Arith, Frac, Unfit};
 use lp_model::Place;

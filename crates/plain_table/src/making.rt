@@ -1,10 +1,9 @@
 //! How a table is made.
 ghost use Rattle.std.specs.Prelude.{◌≡◌, [], length, IfOk, OnOk};
-ghost use Rattle.lp_run.specs.Listing.{StartFits};
+ghost use Rattle.lp_run.specs.Listing.{StartFits, Judges};
 ghost use Rattle.exact_frac.specs.Count.{unfit_after};
 ghost use Rattle.lp_run.specs.Instance.{IsWellFormed};
 ghost use Rattle.plain_table.specs.Answers.{IsRunLog, MakesTable, unfit_after_making};
-ghost use Rattle.plain_table.specs.Inner.Lines.{Judges};
 ghost use Rattle.plain_table.specs.Inner.Makings.{IsAtStart, IsFilled, making_listing};
 ghost use Rattle.plain_table.specs.Inner.Rows.{AreWide};
 

@@ -6,7 +6,7 @@ ghost use Rattle.bland_ratio.specs.Leave.{Decides, IsBasisOf};
 ghost use Rattle.bland_ratio.specs.declared.ratio_test.Leave.TheVariants as leave;
 ghost use Rattle.lp_run.specs.Instance.{column_count, row_count};
 ghost use Rattle.lp_run.specs.Step.{Limit, direction};
-ghost use Rattle.plain_table.specs.Inner.Lines.{Judges};
+ghost use Rattle.lp_run.specs.Listing.{Judges};
 ghost use Rattle.plain_table.specs.Inner.Rows.{AreWide};
 ghost use Rattle.plain_table.specs.Inner.Steps.{IsDecided, IsMotion, column_of, ratio_by, test_listing};
 

@@ -1,9 +1,9 @@
 //! What comes next at a table.
-ghost use Rattle.std.specs.Prelude.{◌≡◌, ◌<◌, ◌↔◌, IfErr, IfOk, IsTrue, MatchOption};
+ghost use Rattle.std.specs.Prelude.{◌≡◌, ◌<◌, ◌↔◌, length, IfErr, IfOk, IsTrue, MatchOption};
 ghost use Rattle.exact_frac.specs.Count.{unfit_after};
 ghost use Rattle.lp_run.specs.Instance.{column_count, row_count};
 ghost use Rattle.lp_run.specs.Step.{ArtificialsZero, Eligible, Enters, NoneEligible, direction};
-ghost use Rattle.bland_ratio.specs.Leave.{direction_where, ratio_place};
+ghost use Rattle.bland_ratio.specs.Leave.{IsBasisOf, direction_where, ratio_place};
 ghost use Rattle.plain_table.specs.Next.{ComesNext, IsTableOf, OverflowsNext, column as column_of, prices as prices_of};
 ghost use Rattle.plain_table.specs.Inner.Next.{DecidesAt, HasUnfitRatio, StandsOff};
 
@@ -11,7 +11,7 @@ use crate::motion::decide;
 use crate::table::Table;
 use bland_ratio::{Leave, RatioUnfit, improves};
 use exact_frac::{Arith, Frac};
-use instance_model::Instance;
+use instance_model::{Instance, State};
 use lp_model::{Entry, Kind, Phase, Place};
 use lp_run::ColumnKind;
 
@@ -61,6 +61,33 @@ pub fn falls(cost: Frac) -> bool
     ensures { direction cost ≡ direction_where result }
 {
     !cost.cmp(&Frac::ZERO).is_lt()
+}
+
+/// Whether each artificial is 0, at these basic values of a state.
+pub fn artificials_are_zero(inst: &Instance, state: &State, values: &[Frac]) -> bool
+    requires basis { IsBasisOf inst.now state.now }
+    requires values { length values.now ≡ row_count inst.now }
+    ensures { IsTrue result ↔ ArtificialsZero inst.now state.now values.now }
+{
+    for p in 0..inst.rows() {
+        if is_needed(inst, state, values, p) {
+            return false;
+        }
+    }
+    true
+}
+
+// Whether an artificial stands in a position at another value than 0.
+fn is_needed(inst: &Instance, state: &State, values: &[Frac], p: usize) -> bool
+    requires basis { IsBasisOf inst.now state.now }
+    requires values { length values.now ≡ row_count inst.now }
+    requires position { p < row_count inst.now }
+    ensures { IsTrue result ↔ StandsOff inst.now state.now values.now p }
+{
+    match inst.kind(state.basic(p) as usize) {
+        ColumnKind::Artificial(_) => !values[p].is_zero(),
+        _ => false,
+    }
 }
 
 impl Table {
@@ -136,31 +163,6 @@ impl Table {
         )
     }
 
-    // Whether each artificial is 0.
-    fn artificials_are_zero(&self, inst: &Instance) -> bool
-        requires { IsTableOf inst.now self.now }
-        ensures { IsTrue result ↔ ArtificialsZero inst.now self.now.state self.now.values }
-    {
-        for p in 0..inst.rows() {
-            if self.is_needed(inst, p) {
-                return false;
-            }
-        }
-        true
-    }
-
-    // Whether an artificial stands in a position at another value than 0.
-    fn is_needed(&self, inst: &Instance, p: usize) -> bool
-        requires table { IsTableOf inst.now self.now }
-        requires position { p < row_count inst.now }
-        ensures { IsTrue result ↔ StandsOff inst.now self.now.state self.now.values p }
-    {
-        match inst.kind(self.state().basic(p) as usize) {
-            ColumnKind::Artificial(_) => !self.value(p).is_zero(),
-            _ => false,
-        }
-    }
-
     // What comes next where no column is eligible.
     fn rest(&self, inst: &Instance) -> Next
         requires table { IsTableOf inst.now self.now }
@@ -170,7 +172,7 @@ impl Table {
         match self.state().phase() {
             Phase::Two => Next::End(End::Optimal),
             Phase::One => {
-                if self.artificials_are_zero(inst) {
+                if artificials_are_zero(inst, self.state(), self.values()) {
                     Next::Entry(Entry::Turn)
                 } else {
                     Next::End(End::Infeasible)

@@ -1,11 +1,11 @@
 //! The parts of a table as a column takes a position, worked into spare parts.
 ghost use Rattle.std.specs.Prelude.{◌≡◌, ◌≢◌, ◌<◌, ◌≤◌, ◌^◌, [], get_or, length, take, IfOk, OnOk, Some, None};
 ghost use Rattle.lp_model.specs.declared.Kind.TheVariants as kind;
-ghost use Rattle.lp_run.specs.Listing.{place};
+ghost use Rattle.lp_run.specs.Listing.{place, Judges};
 ghost use Rattle.rational.specs.Rational.{zero_ℚ};
 ghost use Rattle.rational.specs.Sum.{at};
 ghost use Rattle.exact_frac.specs.Count.{unfit_after};
-ghost use Rattle.plain_table.specs.Inner.Lines.{IsSupport, Judges};
+ghost use Rattle.plain_table.specs.Inner.Lines.{IsSupport};
 ghost use Rattle.plain_table.specs.Inner.Pivots.{ArePivoted, line_listing, pivot_line, swap_listing};
 ghost use Rattle.plain_table.specs.Inner.Rows.{AreWide};
 

@@ -1,24 +1,14 @@
 //! What the structurals at their start leave of the right sides.
 ghost use Rattle.std.specs.Prelude.{◌≡◌, ◌<◌};
-ghost use Rattle.rational.specs.Sparse.{entry_at};
 ghost use Rattle.exact_frac.specs.Count.{unfit_after};
 ghost use Rattle.exact_frac.specs.Settles.{Settles};
-ghost use Rattle.lp_run.specs.Instance.{row_count, structural as structural_of, structural_count};
+ghost use Rattle.lp_run.specs.Instance.{row_count};
 ghost use Rattle.plain_table.specs.Inner.Starts.{residual_work};
 
 use exact_frac::{Arith, Frac, Unfit};
 use instance_model::Instance;
 use lp_model::Phase;
-use sparse_steps::less_product;
-
-/// The entry of a structural in a row.
-#[tactic(auto, using(exact_frac::specs::Constants::constants))]
-pub fn entry(inst: &Instance, structural: usize, row: usize) -> Frac
-    requires { structural < structural_count inst.now }
-    ensures { result ≡ entry_at (structural_of inst.now structural).entries row }
-{
-    inst.entries(structural).get(row).unwrap_or(Frac::ZERO)
-}
+use sparse_steps::{entry, less_product};
 
 /// The right side of a row less the structurals at their start, in rising structurals.
 pub fn residual<A: Arith>(inst: &Instance, row: usize, arith: &mut A) -> Result<Frac, Unfit>
@@ -30,7 +20,7 @@ pub fn residual<A: Arith>(inst: &Instance, row: usize, arith: &mut A) -> Result<
     let mut rest = inst.right(row);
     for j in 0..inst.structurals() {
         let value = inst.bounds(Phase::One, j).start_value();
-        rest = less_product(rest, entry(inst, j, row), value, arith)?;
+        rest = less_product(rest, entry(inst.entries(j), row), value, arith)?;
     }
     Ok(rest)
 }

@@ -3,9 +3,10 @@ ghost use Rattle.std.specs.Prelude.{◌≡◌, ◌≢◌, ◌<◌, ◌≤◌, �
 ghost use Rattle.rational.specs.Rational.{zero_ℚ};
 ghost use Rattle.rational.specs.Sum.{at};
 ghost use Rattle.lp_run.specs.Instance.{column_count, row_count};
+ghost use Rattle.lp_run.specs.Listing.{Judges};
 ghost use Rattle.plain_table.specs.Inner.Starts.{IsStartRow, start_row_listing};
 ghost use Rattle.exact_frac.specs.Count.{unfit_after};
-ghost use Rattle.plain_table.specs.Inner.Lines.{AreLessPacked, AreRising, IsSupport, IsUnpacked, Judges, less_listing};
+ghost use Rattle.plain_table.specs.Inner.Lines.{AreLessPacked, AreRising, IsSupport, IsUnpacked, less_listing};
 
 use crate::line::{subtract_packed, unpack};
 use crate::start::fill_row;

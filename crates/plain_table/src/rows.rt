@@ -3,7 +3,8 @@ ghost use Rattle.std.specs.Prelude.{◌≡◌, ◌+◌, ◌<◌, ◌≤◌, ◌^
 ghost use Rattle.std.specs.Thread.{IsSync};
 ghost use Rattle.rational.specs.Sum.{at};
 ghost use Rattle.exact_frac.specs.Count.{unfit_after};
-ghost use Rattle.plain_table.specs.Inner.Lines.{IsSupport, Judges};
+ghost use Rattle.lp_run.specs.Listing.{Judges};
+ghost use Rattle.plain_table.specs.Inner.Lines.{IsSupport};
 ghost use Rattle.plain_table.specs.Inner.Rows.{AreEliminated, AreTaken, AreWide, CanWorkRows, EliminatesRow, IsTaken, WorksRows, row_listing, rows_listing};
 
 use crate::row::Row;

@@ -4,18 +4,17 @@ ghost use Rattle.lp_model.specs.declared.Kind.TheVariants as kind;
 ghost use Rattle.rational.specs.Sparse.{at_index};
 ghost use Rattle.rational.specs.Sum.{at};
 ghost use Rattle.lp_run.specs.Instance.{coefficient as coefficient_of, column_count, row_count};
-ghost use Rattle.lp_run.specs.Listing.{entries_listing, place, start_entry as entry_of};
+ghost use Rattle.lp_run.specs.Listing.{entries_listing, place, start_entry as entry_of, Judges};
 ghost use Rattle.exact_frac.specs.Count.{unfit_after};
-ghost use Rattle.plain_table.specs.Inner.Lines.{Judges};
 ghost use Rattle.plain_table.specs.Inner.Rows.{AreWide};
 ghost use Rattle.plain_table.specs.Inner.Starts.{AreStartRows, IsStartRow, start_row_listing};
 
-use crate::residual::entry;
 use crate::row::Row;
 use exact_frac::{Arith, Frac};
 use instance_model::Instance;
 use lp_model::{Kind, Place, Side};
 use lp_run::ColumnKind;
+use sparse_steps::entry;
 
 // An item of a multiple of a unit vector.
 #[tactic(auto, using(exact_frac::specs::Constants::constants))]
@@ -33,7 +32,7 @@ fn coefficient(inst: &Instance, row: usize, column: usize) -> Frac
     ensures { result ≡ coefficient_of inst.now row column }
 {
     match inst.kind(column) {
-        ColumnKind::Structural(j) => entry(inst, j, row),
+        ColumnKind::Structural(j) => entry(inst.entries(j), row),
         ColumnKind::Logical(i) => unit(row, i, Frac::ONE),
         ColumnKind::Artificial(i) => unit(row, i, inst.sign(i)),
     }

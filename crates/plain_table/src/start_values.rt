@@ -3,9 +3,8 @@ ghost use Rattle.std.specs.Prelude.{◌≡◌, ℕ, ◌<◌, ◌^◌, length, On
 ghost use Rattle.rational.specs.Rational.{◌-ℚ◌};
 ghost use Rattle.rational.specs.Sum.{at};
 ghost use Rattle.lp_run.specs.Instance.{IsWellFormed, passed_side, residual as residual_of, row_count};
-ghost use Rattle.lp_run.specs.Listing.{AllFit, StartFits, start_sums};
+ghost use Rattle.lp_run.specs.Listing.{AllFit, StartFits, start_sums, Judges};
 ghost use Rattle.exact_frac.specs.Count.{unfit_after};
-ghost use Rattle.plain_table.specs.Inner.Lines.{Judges};
 ghost use Rattle.plain_table.specs.Inner.Starts.{basic_start, logical_rest, start_values_listing};
 
 use crate::residual::residual;

@@ -70,6 +70,13 @@ impl Table {
         self.values.as_slice()
     }
 
+    /// The reduced costs, by column.
+    pub fn costs(&self) -> &[Frac]
+        ensures { result.now ≡ self.now.costs }
+    {
+        self.costs.as_slice()
+    }
+
     /// The reduced cost of a column.
     pub fn cost(&self, column: usize) -> Frac
         requires { column < length self.now.costs }

@@ -1,11 +1,10 @@
 //! The basic values as a column enters.
-ghost use Rattle.std.specs.Prelude.{◌≡◌, ◌<◌, ◌≤◌, ◌^◌, ◌==◌, length, OnOk};
+ghost use Rattle.std.specs.Prelude.{◌≡◌, ◌+◌, ◌<◌, ◌≤◌, ◌^◌, ◌==◌, length, OnOk};
 ghost use Rattle.lp_model.specs.declared.Kind.TheVariants as kind;
 ghost use Rattle.rational.specs.Worked.{work};
-ghost use Rattle.lp_run.specs.Listing.{place};
+ghost use Rattle.lp_run.specs.Listing.{place, Judges};
 ghost use Rattle.exact_frac.specs.Count.{unfit_after};
 ghost use Rattle.exact_frac.specs.Settles.{Settles};
-ghost use Rattle.plain_table.specs.Inner.Lines.{Judges};
 ghost use Rattle.plain_table.specs.Inner.Values.{AreMoved, entered_by, moved, value_work, values_listing};
 
 use exact_frac::{Arith, Frac, Unfit};
@@ -23,6 +22,7 @@ fn move_value<A: Arith>(
     ensures settled { Settles (A.width arith.old) (moved down value element ratio) result }
     ensures width { A.width arith.new ≡ A.width arith.old }
     ensures unfit { A.unfit_count arith.new ≡ unfit_after (A.unfit_count arith.old) result }
+    ensures work { A.work_count arith.new ≤ A.work_count arith.old + 1 }
 {
     if down {
         more_product(value, element, ratio, arith)
@@ -36,6 +36,7 @@ fn enter<A: Arith>(down: bool, rest: Frac, ratio: Frac, arith: &mut A) -> Result
     ensures settled { Settles (A.width arith.old) (work (entered_by down rest ratio)) result }
     ensures width { A.width arith.new ≡ A.width arith.old }
     ensures unfit { A.unfit_count arith.new ≡ unfit_after (A.unfit_count arith.old) result }
+    ensures work { A.work_count arith.new ≤ A.work_count arith.old + 1 }
 {
     if down {
         arith.sub(rest, ratio)
@@ -57,6 +58,7 @@ fn value_after<A: Arith>(
     ensures settled { Settles (A.width arith.old) (value_work own down rest value element ratio) result }
     ensures width { A.width arith.new ≡ A.width arith.old }
     ensures unfit { A.unfit_count arith.new ≡ unfit_after (A.unfit_count arith.old) result }
+    ensures work { A.work_count arith.new ≤ A.work_count arith.old + 1 }
 {
     if own {
         enter(down, rest, ratio, arith)
@@ -66,7 +68,11 @@ fn value_after<A: Arith>(
 }
 
 /// All basic values after a step in which the entering column, whose value was `rest`, falls or rises by the ratio
-/// and takes the position. It takes none where the position is not below m.
+/// and takes the position. It takes none where the position is not below m. A product is worked for each position at most.
+///
+/// # Errors
+///
+/// The place of the first value that does not fit the width, where there is one.
 pub fn move_values<A: Arith>(
     number: u64,
     position: usize,
@@ -85,6 +91,7 @@ pub fn move_values<A: Arith>(
     ensures moved { OnOk result (AreMoved position down rest ratio values.now column.now out.new) }
     ensures width { A.width arith.new ≡ A.width arith.old }
     ensures unfit { A.unfit_count arith.new ≡ unfit_after (A.unfit_count arith.old) result }
+    ensures work { A.work_count arith.new ≤ A.work_count arith.old + length values.now }
 {
     for i in 0..values.len() {
         match value_after(

@@ -1,22 +1,24 @@
 -- The loops that take lists, line by line.
 use Rattle.std.proofs.Common.{◌≡◌, ℕ, ◌+◌, ◌-◌, ◌<◌, List, [], ◌∷◌, ◌++◌, length, map, drop, get_or, Option, Result, Ok, Err, sym, ◌∙◌, ap, ap₂, subst, arith, append-nil}
+use Rattle.std.specs.List.{All}
 use Rattle.std.specs.Result.{IsErrAnd}
 use Rattle.rational.specs.Rational.{ℚ}
+use Rattle.rational.specs.Width.{FitsWidth}
 use Rattle.lp_model.specs.Deck.{Deck}
 use Rattle.lp_text.specs.Report.{value_line}
 use Rattle.mps_cards.specs.ReaderState.{ReaderState}
 use Rattle.report_lines.specs.FirstFlaw.{Expected, repeated, value, values}
 use Rattle.report_reader.specs.declared.fault.ReportFault.{ReportFault}
 use Rattle.report_reader.specs.Inner.Reads.{IsReady, Reads}
-use Rattle.report_reader.proofs.ListLines.{map_snoc, repeated_next, so_far, so_far_more, values_next}
+use Rattle.report_reader.proofs.ListLines.{all_snoc, map_snoc, repeated_next, so_far, so_far_more, values_next}
 use Rattle.report_reader.proofs.Taking.{SoFar, none_yet, stopped, taken}
 
 -- the line of a value, and the values so far
 abbrev pub IsLine : List ℕ → List ℕ → ℚ → List (List ℕ) → Type 0
-IsLine word name v ls = ls ≡ value_line word v name ∷ []
+IsLine word name v ls = (ls ≡ value_line word v name ∷ []) × FitsWidth 127 v
 
 abbrev pub AreSoFar : List ℕ → List (List ℕ) → List ℚ → List (List ℕ) → Type 0
-AreSoFar word names vs ls = ls ≡ so_far word vs names
+AreSoFar word names vs ls = (ls ≡ so_far word vs names) × All (FitsWidth 127) vs
 
 -- the lines of a list
 abbrev pub AreLines : {X : Type 0} → (X → List ℕ) → List X → List (List ℕ) → Type 0
@@ -30,9 +32,12 @@ module _ {S : Type 0} {d : Deck} {remaining : S → Option (List ℕ)} {fault_co
         → SoFar d remaining fault_count before old after new (values word names) (values word (drop (i + 1) names)) (AreSoFar word names ws)
     values_step {v} ws pushed count reads =
         taken (values word (drop (i + 1) names)) (AreSoFar word names ws) (values_next word name names i within name_is)
-        (λ ls ms a b. ap₂ (λ (x y : List (List ℕ)). x ++ y) a b
-        ∙ ap (λ n. so_far word vs names ++ value_line word v n ∷ []) (name_is ∙ ap (λ k. get_or names k []) (sym count))
-        ∙ sym (so_far_more word vs v names (omega (arith, count, within))) ∙ ap (λ us. so_far word us names) (sym pushed))
+        (λ ls ms a b. (
+          ap₂ (λ (x y : List (List ℕ)). x ++ y) a.0 b.0
+              ∙ ap (λ n. so_far word vs names ++ value_line word v n ∷ []) (name_is ∙ ap (λ k. get_or names k []) (sym count))
+              ∙ sym (so_far_more word vs v names (omega (arith, count, within))) ∙ ap (λ us. so_far word us names) (sym pushed),
+          subst (All (FitsWidth 127)) (sym pushed) (all_snoc (FitsWidth 127) vs v a.1 b.1),
+        ))
         h reads
 
     pub values_refused : {W : Type 0} {f : ReportFault} {next : W → List Expected} {Is : W → List (List ℕ) → Type 0} {r : Result W ReportFault}

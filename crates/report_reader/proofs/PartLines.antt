@@ -4,6 +4,7 @@ use Rattle.std.specs.Prelude.{codes, is_some}
 use Rattle.std.specs.List.{All}
 use Rattle.std.proofs.lemmas.List.{length-map}
 use Rattle.rational.specs.Rational.{ℚ}
+use Rattle.rational.specs.Width.{FitsWidth}
 use Rattle.lp_model.specs.Basis.{Basis}
 use Rattle.lp_model.specs.Deck.{Deck}
 use Rattle.lp_model.specs.declared.Entry.{Entry}
@@ -17,7 +18,7 @@ use Rattle.mps_cards.specs.ReaderState.{ReaderState}
 use Rattle.report_lines.specs.Judged.{IsCountLine, IsWithin}
 use Rattle.report_lines.specs.FirstFlaw as expected
 use Rattle.report_lines.specs.FirstFlaw.{Expected, bytes_of, column_total, repeated, sizes, values}
-use Rattle.report_reader.specs.Reading.{IsBasisOf, IsReportOf, IsRising}
+use Rattle.report_reader.specs.Reading.{AreNarrow, IsBasisOf, IsReportOf, IsRising}
 use Rattle.report_reader.specs.Inner.Lines.{after_count, log_line, version_of}
 use Rattle.report_reader.specs.Inner.Reads.{Moves, Reads}
 use Rattle.report_reader.proofs.OneLine.{count_line}
@@ -34,15 +35,23 @@ row_names_length d = length-map d.rows (λ r. r.name)
 -- ── what the lines of parts say ──
 
 abbrev pub IsValues : List ℕ → List (List ℕ) → List ℚ → List (List ℕ) → Type 0
-IsValues word names v ls = (length v ≡ length names) × (ls ≡ value_lines word v names)
+IsValues word names v ls = ((length v ≡ length names) × All (FitsWidth 127) v) × (ls ≡ value_lines word v names)
+
+-- the lists have the deck's lengths, and their fractions are those of 128 bits
+abbrev IsOutcomeOf : Deck → Stated → Type 0
+IsOutcomeOf d o = HasLengthsOf d o × AreNarrow o
 
 -- the lines behind that of the outcome's kind
 abbrev pub IsOutcome : Deck → List ℕ → Outcome → List (List ℕ) → Type 0
-IsOutcome d kind o ls = HasLengthsOf d (outcome_of o) × (kind ∷ ls ≡ outcome_lines d (outcome_of o))
+IsOutcome d kind o ls = IsOutcomeOf d (outcome_of o) × (kind ∷ ls ≡ outcome_lines d (outcome_of o))
+
+-- the line of the objective
+abbrev pub IsObjective : ℚ → List (List ℕ) → Type 0
+IsObjective v ls = (ls ≡ (codes "OBJECTIVE " ++ fraction_text v) ∷ []) × FitsWidth 127 v
 
 -- the lines of the objective and of a point
 abbrev pub IsObjectiveAnd : Deck → ℚ → List ℚ → List (List ℕ) → Type 0
-IsObjectiveAnd d v x ls = (length x ≡ length (column_names d)) × (ls ≡ (codes "OBJECTIVE " ++ fraction_text v) ∷ value_lines (codes "VALUE") x (column_names d))
+IsObjectiveAnd d v x ls = ((length x ≡ length (column_names d)) × All (FitsWidth 127) x × FitsWidth 127 v) × (ls ≡ (codes "OBJECTIVE " ++ fraction_text v) ∷ value_lines (codes "VALUE") x (column_names d))
 
 abbrev pub IsFinished : Deck → Option (List Entry) → List (List ℕ) → Type 0
 IsFinished d log ls = IfSome log (All (IsWithin (column_total d) (length d.rows))) × (ls ≡ log_lines log ++ codes "END" ∷ [])
@@ -65,11 +74,11 @@ abbrev pub IsHead : Deck → Bool → List (List ℕ) → Type 0
 IsHead d tells ls = ls ≡ version_of tells ∷ (codes "DECK " ++ d.name) ∷ []
 
 abbrev pub IsHeadAnd : Deck → Bool → Stated → List (List ℕ) → Type 0
-IsHeadAnd d tells o ls = HasLengthsOf d o × (ls ≡ version_of tells ∷ (codes "DECK " ++ d.name) ∷ outcome_lines d o)
+IsHeadAnd d tells o ls = IsOutcomeOf d o × (ls ≡ version_of tells ∷ (codes "DECK " ++ d.name) ∷ outcome_lines d o)
 
 abbrev pub IsUpToLog : Deck → Bool → Stated → Option Basis → List (List ℕ) → Type 0
 IsUpToLog d tells o b ls =
-    HasLengthsOf d o × (is_some b ≡ tells) × IfSome b (IsBasisOf d) × (ls ≡ version_of tells ∷ (codes "DECK " ++ d.name) ∷ outcome_lines d o ++ basis_lines b)
+    IsOutcomeOf d o × (is_some b ≡ tells) × IfSome b (IsBasisOf d) × (ls ≡ version_of tells ∷ (codes "DECK " ++ d.name) ∷ outcome_lines d o ++ basis_lines b)
 
 abbrev pub IsWhole : Deck → Report → List (List ℕ) → Type 0
 IsWhole d report ls = IsReportOf d report × (ls ≡ report_lines d report)
@@ -78,7 +87,7 @@ pub whole_lines : (d : Deck) (tells : Bool) (o : Stated) (b : Option Basis) (log
     b ls → IsFinished d log ms
     → IsWhole d (record { outcome = o; basis = b; log = log }) (ls ++ ms)
 whole_lines d tells o b log ls ms h k = (
-  record { lengths = h.0; basis = h.2; log = k.0 },
+  record { lengths = h.0.0; narrow = h.0.1; basis = h.2; log = k.0 },
   ap₂ (λ (p q : List (List ℕ)). p ++ q) h.3 k.1
       ∙ ap (λ v. (v ∷ (codes "DECK " ++ d.name) ∷ outcome_lines d o ++ basis_lines b) ++ (log_lines log ++ codes "END" ∷ [])) (version_is b tells h.1)
       ∙ sym (append_assoc (version_line b ∷ (codes "DECK " ++ d.name) ∷ outcome_lines d o ++ basis_lines b) (log_lines log) (codes "END" ∷ [])),

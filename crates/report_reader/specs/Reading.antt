@@ -4,6 +4,8 @@ use Rattle.std.specs.List.{All}
 use Rattle.io_ends.specs.Count.{one_more}
 use Rattle.lp_model.specs.Basis.{Basis}
 use Rattle.lp_model.specs.Deck.{Deck}
+use Rattle.lp_model.specs.Outcome.{Outcome, infeasible, optimal, unbounded}
+use Rattle.rational.specs.Width.{FitsWidth}
 use Rattle.lp_text.specs.Report.{Report, text_of_report}
 use Rattle.deck_model.specs.Outcome.{HasLengthsOf}
 use Rattle.std.specs.Option.{option_map}
@@ -33,9 +35,16 @@ pub record IsBasisOf (d : Deck) (basis : Basis) : Type 0 where
   pub upper : All (λ q. q < column_total d) basis.upper
   pub rising : IsRising basis.upper
 
--- the lists have the deck's lengths, and the numbers of the basis and of the log are in range
+-- the parts of each fraction are below 2^127
+abbrev pub AreNarrow : Outcome → Type 0
+AreNarrow (optimal x y objective) = All (FitsWidth 127) x × All (FitsWidth 127) y × FitsWidth 127 objective
+AreNarrow (infeasible y) = All (FitsWidth 127) y
+AreNarrow (unbounded x ray) = All (FitsWidth 127) x × All (FitsWidth 127) ray
+
+-- the lists have the deck's lengths, the fractions are those of 128 bits, and the numbers of the basis and of the log are in range
 pub record IsReportOf (d : Deck) (report : Report) : Type 0 where
   pub lengths : HasLengthsOf d report.outcome
+  pub narrow : AreNarrow report.outcome
   pub basis : IfSome report.basis (IsBasisOf d)
   pub log : IfSome report.log (All (IsWithin (column_total d) (length d.rows)))
 

@@ -1,6 +1,7 @@
 // The lists of a report, taken line by line.
 ghost use Rattle.std.specs.Prelude.{◌≡◌, ◌<◌, ◌≤◌, ◌+◌, [], codes, length, map};
 ghost use Rattle.std.specs.List.{All};
+ghost use Rattle.rational.specs.Width.{FitsWidth};
 ghost use Rattle.lp_model.specs.Deck.{Deck as Program};
 ghost use Rattle.lp_text.specs.Report.{entry_line, number_line, value_lines};
 ghost use Rattle.cert_text.specs.Names.{names_of};
@@ -31,7 +32,7 @@ pub(crate) fn read_values<S: Source>(
     requires { IsReady lines.old }
     ensures { (d : Program) → Reads d S.remaining S.fault_count lines.old lines.new source.old source.new
         (values word.now (names_of names.now)) (λ _. [])
-        (λ v ls. (length v ≡ length (names_of names.now)) × (ls ≡ value_lines word.now v (names_of names.now))) result }
+        (λ v ls. ((length v ≡ length (names_of names.now)) × All (FitsWidth 127) v) × (ls ≡ value_lines word.now v (names_of names.now))) result }
 {
     let mut list = Vec::new(alloc);
     for index in 0..names.len() {

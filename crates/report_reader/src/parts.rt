@@ -6,7 +6,7 @@ ghost use Rattle.deck_model.specs.Outcome.{HasLengthsOf, outcome_of};
 ghost use Rattle.report_lines.specs.Judged.{IsWithin};
 ghost use Rattle.report_lines.specs.FirstFlaw as expected;
 ghost use Rattle.report_lines.specs.FirstFlaw.{column_total, values};
-ghost use Rattle.report_reader.specs.Reading.{IsBasisOf};
+ghost use Rattle.report_reader.specs.Reading.{AreNarrow, IsBasisOf};
 ghost use Rattle.report_reader.specs.Inner.Lines.{of_basis};
 ghost use Rattle.report_reader.specs.Inner.Reads.{IsReady, Reads};
 
@@ -31,7 +31,7 @@ pub(crate) fn read_outcome<S: Source>(
 ) -> Result<Outcome, ReportFault>
     requires { IsReady lines.old }
     ensures { Reads deck.now S.remaining S.fault_count lines.old lines.new source.old source.new (expected.kind ∷ []) (λ _. [])
-        (λ o ls. HasLengthsOf deck.now (outcome_of o) × (ls ≡ outcome_lines deck.now (outcome_of o))) result }
+        (λ o ls. (HasLengthsOf deck.now (outcome_of o) × AreNarrow (outcome_of o)) × (ls ≡ outcome_lines deck.now (outcome_of o))) result }
 {
     match read_kind(lines, source)? {
         Kind::Optimal => read_optimal(alloc, lines, source, deck),
@@ -50,7 +50,7 @@ fn read_optimal<S: Source>(
     requires { IsReady lines.old }
     ensures { Reads deck.now S.remaining S.fault_count lines.old lines.new source.old source.new
         (expected.objective ∷ values (codes "VALUE") (column_names deck.now) ++ values (codes "PRICE") (row_names deck.now)) (λ _. [])
-        (λ o ls. HasLengthsOf deck.now (outcome_of o) × (codes "OPTIMAL" ∷ ls ≡ outcome_lines deck.now (outcome_of o))) result }
+        (λ o ls. (HasLengthsOf deck.now (outcome_of o) × AreNarrow (outcome_of o)) × (codes "OPTIMAL" ∷ ls ≡ outcome_lines deck.now (outcome_of o))) result }
 {
     let objective = read_objective(lines, source)?;
     let x = read_values(alloc, lines, source, b"VALUE", &Names::Columns(deck))?;
@@ -67,7 +67,7 @@ fn read_infeasible<S: Source>(
 ) -> Result<Outcome, ReportFault>
     requires { IsReady lines.old }
     ensures { Reads deck.now S.remaining S.fault_count lines.old lines.new source.old source.new (values (codes "FARKAS") (row_names deck.now)) (λ _. [])
-        (λ o ls. HasLengthsOf deck.now (outcome_of o) × (codes "INFEASIBLE" ∷ ls ≡ outcome_lines deck.now (outcome_of o))) result }
+        (λ o ls. (HasLengthsOf deck.now (outcome_of o) × AreNarrow (outcome_of o)) × (codes "INFEASIBLE" ∷ ls ≡ outcome_lines deck.now (outcome_of o))) result }
 {
     let y = read_values(alloc, lines, source, b"FARKAS", &Names::Rows(deck))?;
     Ok(Outcome::Infeasible { y })
@@ -83,7 +83,7 @@ fn read_unbounded<S: Source>(
     requires { IsReady lines.old }
     ensures { Reads deck.now S.remaining S.fault_count lines.old lines.new source.old source.new
         (values (codes "VALUE") (column_names deck.now) ++ values (codes "RAY") (column_names deck.now)) (λ _. [])
-        (λ o ls. HasLengthsOf deck.now (outcome_of o) × (codes "UNBOUNDED" ∷ ls ≡ outcome_lines deck.now (outcome_of o))) result }
+        (λ o ls. (HasLengthsOf deck.now (outcome_of o) × AreNarrow (outcome_of o)) × (codes "UNBOUNDED" ∷ ls ≡ outcome_lines deck.now (outcome_of o))) result }
 {
     let x = read_values(alloc, lines, source, b"VALUE", &Names::Columns(deck))?;
     let ray = read_values(alloc, lines, source, b"RAY", &Names::Columns(deck))?;

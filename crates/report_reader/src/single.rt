@@ -1,5 +1,6 @@
 // The lines of a report, taken one by one.
 ghost use Rattle.std.specs.Prelude.{◌≡◌, ◌<◌, ◌≤◌, ◌+◌, ◌∷◌, ◌++◌, [], ℕ, codes, length, List};
+ghost use Rattle.rational.specs.Width.{FitsWidth};
 ghost use Rattle.lp_model.specs.Deck.{Deck as Program};
 ghost use Rattle.lp_text.specs.Fraction.{fraction_text};
 ghost use Rattle.lp_text.specs.Report.{entry_line, number_line, value_line};
@@ -67,7 +68,7 @@ pub(crate) fn read_objective<S: Source>(
 ) -> Result<Frac, ReportFault>
     requires { IsReady lines.old }
     ensures { (d : Program) → Reads d S.remaining S.fault_count lines.old lines.new source.old source.new
-        (expected.objective ∷ []) (λ _. []) (λ v lines. lines ≡ (codes "OBJECTIVE " ++ fraction_text v) ∷ []) result }
+        (expected.objective ∷ []) (λ _. []) (λ v lines. (lines ≡ (codes "OBJECTIVE " ++ fraction_text v) ∷ []) × FitsWidth 127 v) result }
 {
     let line = next_line(lines, source)?;
     judged(line.number, objective(line.bytes.bytes()))
@@ -82,7 +83,7 @@ pub(crate) fn read_value<S: Source>(
 ) -> Result<Frac, ReportFault>
     requires { IsReady lines.old }
     ensures { (d : Program) → Reads d S.remaining S.fault_count lines.old lines.new source.old source.new
-        (expected.value word.now name.now ∷ []) (λ _. []) (λ v lines. lines ≡ value_line word.now v name.now ∷ []) result }
+        (expected.value word.now name.now ∷ []) (λ _. []) (λ v lines. (lines ≡ value_line word.now v name.now ∷ []) × FitsWidth 127 v) result }
 {
     let line = next_line(lines, source)?;
     judged(line.number, value(line.bytes.bytes(), word, name))

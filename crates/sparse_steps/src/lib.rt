@@ -1,11 +1,11 @@
-//! A sparse column worked into a vector, and out of one item: the two loops of all sparse solves.
+//! A sparse column worked into a vector, and out of one item: the two loops of all sparse solves; and its entry in a row.
 //!
 //! **Model.** A column is seen as its pairs of row and entry in rising rows (`Sparse` of `sparse_cols`), a vector as
 //! the list of its numbers, a calculation as its worked values in order and its answer (`Worked` of `rational`).
 //!
 //! **Contract.** [`gather`] takes the product of each entry with the vector's item in its row from one number;
 //! [`subtract`] takes the product of each entry with one number from the vector's items. A product of a zero factor
-//! is skipped, and so is one row of choice. `Lines` of `rational` gives both as calculations. Each call makes four
+//! is skipped, and so is one row of choice. `Lines` of `rational` gives both as calculations. Each of them makes four
 //! promises: it answers what the calculation settles to at the arithmetic's width, which is `Unfit` exactly where a
 //! worked value does not fit; it keeps the width; the count of unfit results rises by one exactly at `Unfit`; and
 //! the count of work rises at most by the number of stored entries. After `Unfit` the vector of `subtract` holds
@@ -18,12 +18,21 @@
 ghost use Rattle.std.specs.Prelude.{◌≡◌, ◌+◌, ◌≤◌, length};
 ghost use Rattle.rational.specs.Worked.{less, less_unless, more};
 ghost use Rattle.rational.specs.Lines as lines;
+ghost use Rattle.rational.specs.Sparse.{entry_at};
 ghost use Rattle.sparse_cols.specs.Sparse.{IsRising};
 ghost use Rattle.exact_frac.specs.Count.{unfit_after};
 ghost use Rattle.exact_frac.specs.Settles.{Settles, Leaves};
 
 use exact_frac::{Arith, Frac, Unfit};
 use sparse_cols::SparseCol;
+
+/// The entry of a column in a row, which is 0 where none is stored.
+#[tactic(auto, using(exact_frac::specs::Constants::constants))]
+pub fn entry(column: &SparseCol<Frac>, row: usize) -> Frac
+    ensures { result ≡ entry_at column.now.pairs row }
+{
+    column.get(row).unwrap_or(Frac::ZERO)
+}
 
 /// `x` less the product of `a` and `b`, at most one product. A product of 0 is skipped.
 pub fn less_product<A: Arith>(x: Frac, a: Frac, b: Frac, arith: &mut A) -> Result<Frac, Unfit>

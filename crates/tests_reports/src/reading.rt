@@ -1,6 +1,7 @@
 // Reports behind a deck: read and written back, and refused.
 use cert_text::write_report;
 use io_ends::{MemSink, MemSource};
+use lp_text::Form;
 use mps_cards::LineReader;
 use mps_reader::read_deck;
 use report_lines::Flaw;
@@ -151,7 +152,7 @@ fn written_again(alloc: Global, text: &[u8]) -> Result<Result<Vec<u8>, ReportFau
     input.extend_from_slice(text)?;
     let mut source = MemSource::new(input, Vec::new(alloc));
     let mut lines = LineReader::new(alloc)?;
-    let deck = read_deck(alloc, &mut lines, &mut source)?;
+    let deck = read_deck(alloc, &mut lines, &mut source, Form::Fixed)?;
     lines.mark();
     match read_report(alloc, &mut lines, &mut source, &deck) {
         Ok(report) => {
@@ -265,7 +266,7 @@ fn a_failed_read_is_told(rt: HostRuntime) -> Result<(), Fail> {
     let input = Vec::from_slice(alloc, DECK.as_bytes())?;
     let mut source = MemSource::new(input, vec![in alloc; 2]?);
     let mut lines = LineReader::new(alloc)?;
-    let deck = read_deck(alloc, &mut lines, &mut source)?;
+    let deck = read_deck(alloc, &mut lines, &mut source, Form::Fixed)?;
     lines.mark();
     let answer = read_report(alloc, &mut lines, &mut source, &deck);
     assert!(rt; matches!(answer, Err(ReportFault::Read)));

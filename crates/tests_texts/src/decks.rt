@@ -2,6 +2,7 @@
 use deck_model::{Deck, End, RowKind};
 use exact_frac::Frac;
 use io_ends::MemSource;
+use lp_text::Form;
 use mps_cards::LineReader;
 use mps_reader::{DeckFault, read_deck};
 use std::process::Abort;
@@ -114,7 +115,7 @@ fn assert_columns(rt: &impl Abort, deck: &Deck) {
 fn a_deck_is_read(rt: HostRuntime) -> Result<(), Fail> {
     let mut source = MemSource::new(WHOLE.as_bytes().to_vec(rt.alloc())?, Vec::new(rt.alloc()));
     let mut lines = LineReader::new(rt.alloc())?;
-    let Ok(deck) = read_deck(rt.alloc(), &mut lines, &mut source) else {
+    let Ok(deck) = read_deck(rt.alloc(), &mut lines, &mut source, Form::Fixed) else {
         panic!(rt; "a fault");
     };
     assert_eq!(rt; lines.lines(), 46);
@@ -128,7 +129,7 @@ fn a_failed_read_is_told(rt: HostRuntime) -> Result<(), Fail> {
     let text = vec![in rt.alloc(); b'\n'; 5_000]?;
     let mut source = MemSource::new(text, vec![in rt.alloc(); 2]?);
     let mut lines = LineReader::new(rt.alloc())?;
-    let answer = read_deck(rt.alloc(), &mut lines, &mut source);
+    let answer = read_deck(rt.alloc(), &mut lines, &mut source, Form::Fixed);
     assert!(rt; matches!(answer, Err(DeckFault::Read)));
     Ok(())
 }

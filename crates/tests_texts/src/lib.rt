@@ -7,4 +7,6 @@
 #[cfg(test)]
 mod decks;
 #[cfg(test)]
+mod free;
+#[cfg(test)]
 mod pieces;

@@ -1,5 +1,5 @@
 -- Groups of items, as the code walks them: one item for each column, or for each row.
-use Rattle.std.specs.Prelude.{◌≡◌, ℕ, ◌<◌, List, [], ◌∷◌, ◌++◌, map, length, get_or, ◌||◌, Option, Some, None, Bool, true, false, Result, Ok, Err, MatchResult}
+use Rattle.std.specs.Prelude.{◌≡◌, ℕ, ◌-◌, ◌^◌, ◌<◌, ◌≤◌, List, [], ◌∷◌, ◌++◌, map, length, get_or, ◌||◌, Option, Some, None, Bool, true, false, Result, Ok, Err, MatchResult}
 use Rattle.std.specs.List.{range_with_len}
 use Rattle.std.specs.Option.{unwrap_or}
 use Rattle.exact_frac.specs.declared.unfit.Unfit.{Unfit as Refusal}
@@ -23,7 +23,7 @@ use Rattle.cert_check.specs.declared.groups.Group.{Group}
 use Rattle.cert_check.specs.declared.groups.Group.TheVariants.{Columns, EndlessColumns, EndlessRows, Prices, RayColumns, RayRows, Reduced, Rows}
 use Rattle.cert_check.specs.Items.{allows, column_item, endless_column_item, endless_row_item, is_among, is_at_end, is_at_rest, is_within, price_item, ray_column_item, ray_row_item, reduced_item, row_item, zero_where}
 use Rattle.cert_check.specs.Sums.{activity_sum, interval_sum, plus, product, reduced_sum, right_sum, weighted_sum}
-use Rattle.cert_check.specs.Walk.{Item, each}
+use Rattle.cert_check.specs.Walk.{Item, each, first_stop}
 
 -- ── the parts of a row's interval ──
 
@@ -129,6 +129,20 @@ abbrev pub unfit_by : ℕ → Result (Unit {0}) Stop → ℕ
 unfit_by count (Ok _) = count
 unfit_by count (Err (Broken _)) = count
 unfit_by count (Err (Unfit _)) = raised count 1
+
+-- the items of a group from one number up to another can be looked at
+pub record CanLook (w : ℕ) (g : Group) (d : Deck) (x y sums : List ℚ) (from to : ℕ) : Type 0 where
+  pub ordered : from ≤ to
+  pub within : to ≤ count_of g d
+  pub few : to < 2 ^ 32
+  pub given : AreGiven g d x y
+  pub ahead : IsAhead w d x sums
+
+-- they are looked at one after another, with the counts of an arithmetic before and after
+pub record Looks (w w' unfit unfit' : ℕ) (g : Group) (d : Deck) (x y : List ℚ) (from to : ℕ) (result : Result (Unit {0}) Stop) : Type 0 where
+  pub first : FirstIs (first_stop w (items_of g d x y from (to - from))) result
+  pub width : w' ≡ w
+  pub unfits : unfit' ≡ unfit_by unfit result
 
 -- what is answered where a walk ends so
 abbrev pub verdict_of : Result (Unit {0}) Stop → Result Verdict CheckFault

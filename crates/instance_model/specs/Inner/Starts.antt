@@ -18,10 +18,6 @@ use Rattle.instance_model.specs.declared.making.InstanceFault.{InstanceFault}
 use Rattle.instance_model.specs.declared.making.InstanceFault.TheVariants as fault
 use Rattle.instance_model.specs.declared.start_sums.RowStart.{RowStart}
 
--- the answer is the place of the first listed value that does not fit, and Ok where all fit
-abbrev pub Judges : {A : Type 0} → ℕ → List Listed → Result A Place → Type 0
-Judges w vs result = MatchResult result (λ _. AllFit w vs) (λ here. first_unfit w vs ≡ Some here)
-
 -- the place of a sum of row i that stands in no column
 abbrev pub row_place : ℕ → Place
 row_place i = place 0 kind.Start (Some i) None

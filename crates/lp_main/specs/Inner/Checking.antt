@@ -1,6 +1,7 @@
 -- What the parts of a check answer.
 use Rattle.std.specs.Prelude.{◌≡◌, ◌⊎◌, ℕ, List, Option, IfSome, Err}
 use Rattle.lp_model.specs.Deck.{Deck}
+use Rattle.lp_text.specs.declared.Form.{Form}
 use Rattle.lp_text.specs.Report.{Report}
 use Rattle.cert_check.specs.declared.verdict.CheckFault.TheVariants.{Overflow}
 use Rattle.cert_check.specs.Judged.{Judges}
@@ -24,28 +25,18 @@ refusal_of_report fault.Memory = refusal.Memory
 refusal_of_report (fault.At number flaw) = refusal.Report number flaw
 
 -- why no deck with a report behind it was read
-abbrev pub IsBothCause : Option (List ℕ) → Option (List ℕ) → ℕ → ℕ → Refusal → Type 0
-IsBothCause text left faults faults' (refusal.Deck fault) = IfSome text (λ t. IsFirstFault t fault)
-IsBothCause text left faults faults' refusal.Read = IfSome text (λ t. IsCutOff left t ⊎ IsReportCutOff left faults faults' t)
-IsBothCause text left faults faults' (refusal.Report number found) = IfSome text (IsReportFlaw number found)
-IsBothCause text left faults faults' refusal.Memory = Unit {0}
-IsBothCause text left faults faults' refusal.Usage = ⊥
-IsBothCause text left faults faults' refusal.Write = ⊥
-IsBothCause text left faults faults' (refusal.Overflow here) = ⊥
-IsBothCause text left faults faults' (refusal.Budget moves) = ⊥
-IsBothCause text left faults faults' (refusal.Unfit rule name) = ⊥
+abbrev pub IsBothCause : Form → Option (List ℕ) → Option (List ℕ) → ℕ → ℕ → Refusal → Type 0
+IsBothCause form text left faults faults' (refusal.Deck fault) = IfSome text (λ t. IsFirstFault form t fault)
+IsBothCause form text left faults faults' refusal.Read = IfSome text (λ t. IsCutOff form left t ⊎ IsReportCutOff form left faults faults' t)
+IsBothCause form text left faults faults' (refusal.Report number found) = IfSome text (IsReportFlaw form number found)
+IsBothCause form text left faults faults' refusal.Memory = Unit {0}
+IsBothCause form text left faults faults' other = ⊥
 
 -- why there is no verdict on a report
 abbrev pub IsJudgeCause : ℕ → Deck → Report → Refusal → Type 0
 IsJudgeCause w d report (refusal.Unfit rule name) = Judges w (walk d report.outcome report.basis) (Err (Overflow rule)) × (name ≡ rule_name d rule)
 IsJudgeCause w d report refusal.Memory = Unit {0}
-IsJudgeCause w d report refusal.Usage = ⊥
-IsJudgeCause w d report refusal.Read = ⊥
-IsJudgeCause w d report refusal.Write = ⊥
-IsJudgeCause w d report (refusal.Deck fault) = ⊥
-IsJudgeCause w d report (refusal.Report number found) = ⊥
-IsJudgeCause w d report (refusal.Overflow here) = ⊥
-IsJudgeCause w d report (refusal.Budget moves) = ⊥
+IsJudgeCause w d report other = ⊥
 
 abbrev pub answer_of : Verdict → Answer
 answer_of Yes = answer.Done

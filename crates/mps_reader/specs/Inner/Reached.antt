@@ -8,6 +8,8 @@ use Rattle.mps_cards.specs.ReaderState.{ReaderState}
 use Rattle.mps_cards.specs.NextLine.{FailsToRead, IsAtEnd, answered, first_size, lines_left}
 use Rattle.mps_cards.specs.declared.lines.Line.{Line}
 use Rattle.lp_text.specs.declared.Counted.TheVariants.{Bytes}
+use Rattle.lp_text.specs.declared.Form.{Form}
+use Rattle.lp_text.specs.declared.Form.TheVariants.{Fixed, Free}
 use Rattle.lp_text.specs.declared.LineFault.{LineFault}
 use Rattle.lp_text.specs.declared.LineFault.TheVariants.{Limit}
 use Rattle.mps_model.specs.DeckSoFar.{DeckSoFar, no_cards}
@@ -20,9 +22,14 @@ use Rattle.mps_reader.specs.Inner.Standing.{IsDraftOf}
 
 -- ── one line ──
 
--- the line has the columns that count of this line of a text
-abbrev pub HasColumnsOf : Line → TextLine → Type 0
-HasColumnsOf line whole = line ≡ answered line.number 61 whole
+-- how many bytes of a line are kept: the columns that count, or in free form one byte more than a line may have
+abbrev pub kept_size : Form → ℕ
+kept_size Fixed = 61
+kept_size Free = 256
+
+-- the line has the bytes that are kept of this line of a text
+abbrev pub HasBytesOf : Form → Line → TextLine → Type 0
+HasBytesOf form line whole = line ≡ answered line.number (kept_size form) whole
 
 -- why there was no next line
 abbrev pub IsLineCause : ReaderState → Option (List ℕ) → Option (List ℕ) → ℕ → ℕ → DeckFault → Type 0
@@ -48,27 +55,27 @@ TakesLine n judged new result = MatchResult result (λ _. IsTaken judged new) (I
 -- ── all lines so far ──
 
 -- what was taken and is not kept makes the deck so far, whatever follows; or all was taken, and its last line is not ended
-abbrev pub IsThrough : List ℕ → List ℕ → List ℕ → ℕ → ℕ → DeckSoFar → Type 0
-IsThrough taken rest kept n used s =
-    ((more : List ℕ) → read_lines 0 0 no_cards (whole_lines (taken ++ more)) ≡ read_lines n used s (whole_lines (kept ++ more)))
-    ⊎ ((kept ≡ []) × (rest ≡ []) × IsOpen taken)
+abbrev pub IsThrough : Form → List ℕ → List ℕ → List ℕ → ℕ → ℕ → DeckSoFar → Type 0
+IsThrough form taken rest kept n used s =
+    ((more : List ℕ) → read_lines form 0 0 no_cards (whole_lines (taken ++ more)) ≡ read_lines form n used s (whole_lines (kept ++ more)))
+    ⊎ ((kept ≡ []) × (rest ≡ []) × IsOpen form taken)
 
 -- the reading of a text, whose first bytes were kept from the start, has come to this, after n lines of so many bytes
-pub record ReachedIn (first text : List ℕ) (left : Option (List ℕ)) (kept : List ℕ) (n used : ℕ) (s : DeckSoFar) : Type 0 where
+pub record ReachedIn (form : Form) (first text : List ℕ) (left : Option (List ℕ)) (kept : List ℕ) (n used : ℕ) (s : DeckSoFar) : Type 0 where
   pub rest : List ℕ
   pub known : left ≡ Some rest
-  pub ahead : reading_of (first ++ text) ≡ read_lines n used s (lines_of (kept ++ rest))
+  pub ahead : reading_of form (first ++ text) ≡ read_lines form n used s (lines_of (kept ++ rest))
   pub taken : List ℕ
   pub split : text ≡ taken ++ rest
-  pub through : IsThrough (first ++ taken) rest kept n used s
+  pub through : IsThrough form (first ++ taken) rest kept n used s
   pub size : length (first ++ taken) ≡ used + length kept
 
 -- a reader and a draft have come so far in an input, whose first bytes were kept from the start
-pub record Reached (first : List ℕ) (text left : Option (List ℕ)) (reader : ReaderState) (draft : Draft) : Type 0 where
+pub record Reached (form : Form) (first : List ℕ) (text left : Option (List ℕ)) (reader : ReaderState) (draft : Draft) : Type 0 where
   pub so_far : DeckSoFar
   pub stands : IsDraftOf draft so_far
   pub sound : reader.fault ≡ None
   pub within : reader.since ≤ byte_limit
   pub counted : reader.count ≤ reader.since
   pub lines : lines_left reader.kept left ≡ option_map (drop reader.count) (lines_left first text)
-  pub run : IfSome text (λ t. ReachedIn first t left reader.kept reader.count reader.since so_far)
+  pub run : IfSome text (λ t. ReachedIn form first t left reader.kept reader.count reader.since so_far)

@@ -38,9 +38,13 @@ with_ends (c ∷ cs) (e ∷ ends) = record c { bounds = interval_of e } ∷ with
 abbrev pub deck_with : Deck → List (List ℕ) → List Ends → Deck
 deck_with d free_rows ends = record d { objective = slice_index_or free_rows 0 []; columns = with_ends d.columns ends }
 
--- the objective's name before the first N row; no card spells so long a name
+-- the objective's name before the first N row; no card spells it, since in fixed columns it is too long, and in free form a blank parts tokens
 abbrev pub no_objective_name : List ℕ
 no_objective_name = codes "no objective"
+
+-- a name that a card may spell
+abbrev pub IsSpelled : List ℕ → Type 0
+IsSpelled name = same_bytes no_objective_name name ≡ false
 
 -- ── rows by their names ──
 
@@ -89,6 +93,7 @@ IsOrdered (section ∷ begun) = (may_begin section begun ≡ true) × IsOrdered 
 pub record IsDraftOf (draft : Draft) (s : DeckSoFar) : Type 0 where
   pub begun : s.begun ≡ draft.begun.items
   pub deck : s.deck ≡ deck_with draft.deck draft.free_rows.keys draft.bounds.items
+  pub awaits : s.awaits_sense ≡ draft.awaits_sense
   pub free_rows : s.free_rows ≡ draft.free_rows.keys
   pub set : s.set ≡ draft.set
   -- a row is named exactly where it is marked

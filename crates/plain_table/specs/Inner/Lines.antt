@@ -8,10 +8,6 @@ use Rattle.rational.specs.Sum.{at}
 use Rattle.rational.specs.Worked.{less, placed}
 use Rattle.lp_run.specs.Listing.{AllFit, Listed, first_unfit}
 
--- the answer is the place of the first listed value that does not fit, and Ok where all fit
-abbrev pub Judges : {A : Type 0} → ℕ → List Listed → Result A Place → Type 0
-Judges w vs result = MatchResult result (λ _. AllFit w vs) (λ here. first_unfit w vs ≡ Some here)
-
 -- the place in a column
 abbrev pub in_column : Place → ℕ → Place
 in_column here j = record { number = here.number; kind = here.kind; row = here.row; column = Some j }

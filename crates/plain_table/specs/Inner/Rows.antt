@@ -6,9 +6,9 @@ use Rattle.lp_model.specs.declared.Place.{Place}
 use Rattle.rational.specs.Rational.{ℚ, zero_ℚ, ◌-ℚ◌, ◌*ℚ◌, eq_ℚ}
 use Rattle.rational.specs.Sparse.{upto}
 use Rattle.rational.specs.Sum.{at}
-use Rattle.lp_run.specs.Listing.{Listed, place}
+use Rattle.lp_run.specs.Listing.{Listed, place, Judges}
 use Rattle.exact_frac.specs.Count.{unfit_after}
-use Rattle.plain_table.specs.Inner.Lines.{IsSupport, IsUnpacked, Judges, less_listing}
+use Rattle.plain_table.specs.Inner.Lines.{IsSupport, IsUnpacked, less_listing}
 
 -- what a row lists where column q is taken out of it by the pivot row, which is not its own: nothing where it has no entry there
 abbrev pub row_listing : ℕ → Bool → ℕ → ℕ → List ℚ → List ℚ → List Listed

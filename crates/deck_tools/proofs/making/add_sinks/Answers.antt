@@ -1,4 +1,4 @@
-use Rattle.std.proofs.Common.{ap, arith}
+use Rattle.std.proofs.Common.{ap}
 use Rattle.lp_model.specs.Deck.{Deck}
 use Rattle.deck_tools.proofs.NewNames.{few_sinks, new_sink, sink_added}
 use Rattle.deck_tools.proofs.making.add_sinks.Goals as goal

@@ -1,7 +1,5 @@
 -- The next column is one of them where its status says so.
-use Rattle.std.proofs.Common.{◌≡◌, ℕ, Vec, Global, List, cond, [], ◌∷◌, ◌++◌, append-nil, sym, ◌∙◌, ap, ap₂, arith}
-use Rattle.std.specs.List.{filter}
-use Rattle.rational.specs.Sparse.{upto}
+use Rattle.std.proofs.Common.{ℕ, Vec, Global, cond, [], ◌∷◌, ◌++◌, append-nil, sym, ◌∙◌, ap, ap₂}
 use Rattle.lp_run.specs.State.{status_of}
 use Rattle.instance_model.specs.Basis.{is_at_upper}
 use Rattle.instance_model.proofs.Sums.{filter_next}

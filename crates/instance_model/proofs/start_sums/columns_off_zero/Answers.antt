@@ -1,9 +1,8 @@
 -- The next structural is one of them where its start is not 0.
-use Rattle.std.proofs.Common.{◌≡◌, ◌<◌, ℕ, Vec, Global, length, not, ◌∙◌, ap, arith}
+use Rattle.std.proofs.Common.{◌≡◌, ◌<◌, ℕ, Vec, Global, length, ◌∙◌, ap, arith}
 use Rattle.std.specs.List.{filter}
-use Rattle.rational.specs.Rational.{eq_ℚ, zero_ℚ}
 use Rattle.rational.specs.Sparse.{upto}
-use Rattle.lp_run.specs.Instance.{equations_of, start_value, structural, structural_count}
+use Rattle.lp_run.specs.Instance.{equations_of, structural_count}
 use Rattle.instance_model.specs.Inner.Starts.{starts_off}
 use Rattle.instance_model.proofs.Sums.{count_is, moved_more, moved_same}
 use Rattle.instance_model.proofs.start_sums.columns_off_zero.Goals as goal

@@ -1,8 +1,7 @@
-use Rattle.std.proofs.Common.{◌≡◌, not}
+use Rattle.std.proofs.Common.{◌≡◌}
 use Rattle.std.specs.List.{filter}
-use Rattle.rational.specs.Rational.{eq_ℚ, zero_ℚ}
 use Rattle.rational.specs.Sparse.{upto}
-use Rattle.lp_run.specs.Instance.{equations_of, start_value, structural}
+use Rattle.lp_run.specs.Instance.{equations_of}
 use Rattle.instance_model.specs.Inner.Starts.{starts_off}
 use Rattle.instance_model.proofs.start_sums.columns_off_zero.Given as goal
 

@@ -8,6 +8,7 @@ use Rattle.rational.specs.Sum.{at}
 use Rattle.rational.specs.Worked.{less, settle}
 use Rattle.lp_run.specs.Instance.{Structural, equations_of, start_value, structural_count}
 use Rattle.lp_run.specs.Listing.{first_unfit}
+use Rattle.sparse_cols.specs.Sparse.{Sparse}
 use Rattle.instance_model.specs.Inner.Starts.{off_zero, takings}
 use Rattle.instance_model.proofs.Sums.{column_within, left_over, leaves_residual, moved_take, none_left, right_is, structural_is, taking_leaves, taking_settles, taking_stops}
 use Rattle.instance_model.proofs.start_sums.residual.Goals as goal
@@ -28,8 +29,8 @@ loop-k-init g c =
 pub column_bounds-requires : goal.column_bounds-requires
 column_bounds-requires g c = column_within c.args.deck.now c.args.moved.now c.loop-k.k c.requires.moved c.loop-k-test.true
 
-pub entry-requires : goal.entry-requires
-entry-requires g c = column_within c.args.deck.now c.args.moved.now c.loop-k.k c.requires.moved c.loop-k-test.true
+pub column-requires : goal.column-requires
+column-requires g c = column_within c.args.deck.now c.args.moved.now c.loop-k.k c.requires.moved c.loop-k-test.true
 
 pub product_place-requires-clause-column : goal.product_place-requires-clause-column
 product_place-requires-clause-column g c = omega (arith, column_within c.args.deck.now c.args.moved.now c.loop-k.k c.requires.moved c.loop-k-test.true, c.requires.columns)
@@ -43,7 +44,7 @@ returns-in-Err-clause-answer g c =
     let below : j < length d.columns = column_within d c.args.moved.now k c.requires.moved c.loop-k-test.true in
     let within : k < length (off_zero inst) = subst (λ js. k < length js) c.requires.moved c.loop-k-test.true in
     let is : j ≡ get_or (off_zero inst) k 0 = ap (λ js. get_or js k 0) c.requires.moved in
-    let left = c.entry.ensures ∙ ap (λ (s : Structural). entry_at s.entries c.args.row) (structural_is d j below) in
+    let left = c.entry.ensures ∙ ap (λ (s : Sparse ℚ). entry_at s.pairs c.args.row) c.column.ensures ∙ ap (λ (s : Structural). entry_at s.entries c.args.row) (structural_is d j below) in
     let right = c.start_value-value.ensures ∙ ap (λ (i : Interval). start_value i) c.column_bounds.ensures ∙ ap (λ (s : Structural). start_value s.bounds) (structural_is d j below) in
     let stopped = subst (λ w. settle w (less c.loop-k.rest c.entry.result c.start_value-value.result) ≡ None) c.loop-k.invariant.width c.in-Err.ensures.settled in
     sym c.loop-k.invariant.left
@@ -59,7 +60,7 @@ loop-k-preserved g c =
     let below : j < length d.columns = column_within d c.args.moved.now k c.requires.moved c.loop-k-test.true in
     let within : k < length (off_zero inst) = subst (λ js. k < length js) c.requires.moved c.loop-k-test.true in
     let is : j ≡ get_or (off_zero inst) k 0 = ap (λ js. get_or js k 0) c.requires.moved in
-    let left = c.entry.ensures ∙ ap (λ (s : Structural). entry_at s.entries c.args.row) (structural_is d j below) in
+    let left = c.entry.ensures ∙ ap (λ (s : Sparse ℚ). entry_at s.pairs c.args.row) c.column.ensures ∙ ap (λ (s : Structural). entry_at s.entries c.args.row) (structural_is d j below) in
     let right = c.start_value-value.ensures ∙ ap (λ (i : Interval). start_value i) c.column_bounds.ensures ∙ ap (λ (s : Structural). start_value s.bounds) (structural_is d j below) in
     let settled = subst (λ w. settle w (less c.loop-k.rest c.entry.result c.start_value-value.result) ≡ Some c.in-Ok.left) c.loop-k.invariant.width c.in-Ok.ensures.settled in
     record {

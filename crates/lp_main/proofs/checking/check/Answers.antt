@@ -9,7 +9,7 @@ use Rattle.lp_main.proofs.checking.check.Goals as goal
 
 pub returns-in_err-verdict-clause-cause : goal.returns-in_err-verdict-clause-cause
 returns-in_err-verdict-clause-cause g c =
-    unjudged (g.A.Arith.width c.args.arith.now) c.in_ok-deck.deck c.in_ok-deck.report c.from_residual-in_err-verdict.result
+    unjudged c.args.form (g.A.Arith.width c.args.arith.now) c.in_ok-deck.deck c.in_ok-deck.report c.from_residual-in_err-verdict.result
     (g.S.Source.remaining c.args.source.now) (g.S.Source.remaining c.read_both.new.source) (g.S.Source.fault_count c.args.source.now)
     (g.S.Source.fault_count c.read_both.new.source) (g.K.Sink.contents c.args.out.now) c.in_err-verdict.field-0.0
     c.in_ok-deck.ensures.told c.in_err-verdict.ensures.cause c.from_residual-in_err-verdict.ensures.1
@@ -21,8 +21,8 @@ returns-in-Ok-write_all-clause-done g c =
     let old = g.K.Sink.contents c.args.out.now in
     let new = g.K.Sink.contents c.write_all.new.sink in
     let judged = c.in_ok-verdict.ensures.verdict in
-    subst (λ a. IfSome text (GivesVerdict w old new a)) (sym c.answer_of.ensures)
-    (given w c.in_ok-deck.deck c.in_ok-deck.report text old new (answer_of c.in_ok-verdict.verdict) c.in-Ok.line.items c.in_ok-deck.ensures.told
+    subst (λ a. IfSome text (GivesVerdict c.args.form w old new a)) (sym c.answer_of.ensures)
+    (given c.args.form w c.in_ok-deck.deck c.in_ok-deck.report text old new (answer_of c.in_ok-verdict.verdict) c.in-Ok.line.items c.in_ok-deck.ensures.told
     (c.in-Ok.ensures w judged.0 judged.1) (subst (Appends old new) c.as_slice.ensures.value c.in-Ok-write_all.ensures.appended))
 
 pub returns-clause-cause : goal.returns-clause-cause
@@ -32,5 +32,5 @@ returns-clause-cause g c =
     let old = g.K.Sink.contents c.args.out.now in
     let new = g.K.Sink.contents c.write_all.new.sink in
     let judged = c.in_ok-verdict.ensures.verdict in
-    begun w c.in_ok-deck.deck c.in_ok-deck.report text old new (answer_of c.in_ok-verdict.verdict) c.in-Ok.line.items c.in_ok-deck.ensures.told
+    begun c.args.form w c.in_ok-deck.deck c.in_ok-deck.report text old new (answer_of c.in_ok-verdict.verdict) c.in-Ok.line.items c.in_ok-deck.ensures.told
     (c.in-Ok.ensures w judged.0 judged.1) (subst (AppendsPrefix old new) c.as_slice.ensures.value c.in-Err.ensures.part)

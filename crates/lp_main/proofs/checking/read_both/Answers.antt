@@ -13,7 +13,7 @@ returns-in-Ok-read_report-clause-told g c =
     let text = g.S.Source.remaining c.args.source.now in
     let mid = g.S.Source.remaining c.load.new.source in
     let count = c.load.new.lines.count in
-    told_from c.in_ok-deck.deck count text (prepend_known c.mark.new.self.kept mid) c.in-Ok-read_report.report c.in_ok-deck.ensures.read
+    told_from c.args.form c.in_ok-deck.deck count text (prepend_known c.mark.new.self.kept mid) c.in-Ok-read_report.report c.in_ok-deck.ensures.read
     (subst (λ k. lines_left k mid ≡ option_map (drop count) (lines_left [] text)) (sym (ap (λ r. r.kept) c.mark.ensures)) c.in_ok-deck.ensures.rest)
     c.in-Ok-read_report.ensures.text c.in-Ok-read_report.ensures.report
 
@@ -27,7 +27,7 @@ returns-clause-cause g c =
     let d = c.in_ok-deck.deck in
     let count = c.load.new.lines.count in
     let before = c.mark.new.self in
-    subst (IsBothCause text left n n') (sym c.refusal_of_report.ensures)
-    (report_refused d count text before mid left n n' c.in-Err.fault (ap (λ r. r.count) c.mark.ensures) c.in_ok-deck.ensures.read
+    subst (IsBothCause c.args.form text left n n') (sym c.refusal_of_report.ensures)
+    (report_refused c.args.form d count text before mid left n n' c.in-Err.fault (ap (λ r. r.count) c.mark.ensures) c.in_ok-deck.ensures.read
     (subst (λ k. lines_left k mid ≡ option_map (drop count) (lines_left [] text)) (sym (ap (λ r. r.kept) c.mark.ensures)) c.in_ok-deck.ensures.rest)
     (subst (λ m. IsReportCause d before mid left m n' c.in-Err.fault) (c.in_ok-deck.ensures.stays (λ is. cc)) c.in-Err.ensures.cause))

@@ -1,5 +1,5 @@
 -- The state has taken in the entries so far.
-use Rattle.std.proofs.Common.{◌≡◌, ◌+◌, ◌<◌, get_or, length, take, ap, subst, sym, arith}
+use Rattle.std.proofs.Common.{◌+◌, ◌<◌, get_or, length, take, ap, subst, sym, arith}
 use Rattle.lp_model.specs.declared.Entry.TheVariants.{Flip}
 use Rattle.lp_run.specs.Run.{IsRun}
 use Rattle.lp_main.proofs.LastStates.{reached_next, taken}

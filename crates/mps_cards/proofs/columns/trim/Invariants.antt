@@ -2,13 +2,6 @@ use Rattle.std.proofs.Common.{◌≡◌, length, reverse}
 use Rattle.lp_text.specs.Cards.{trimmed, without_leading}
 use Rattle.mps_cards.proofs.columns.trim.Given as goal
 
--- the blanks before the text are all that it has lost
-abbrev pub invariant-leading : goal.invariant-leading
-invariant-leading l = without_leading l.text ≡ without_leading l.fn.text
-
-abbrev pub decreases-leading : goal.decreases-leading
-decreases-leading l = length l.text
-
 -- the blanks around the text are all that it has lost
 abbrev pub invariant-trailing : goal.invariant-trailing
 invariant-trailing l = reverse (without_leading (reverse l.text)) ≡ trimmed l.fn.text

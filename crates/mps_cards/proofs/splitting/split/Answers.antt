@@ -1,6 +1,4 @@
-use Rattle.mps_cards.proofs.SplittingLemmas.{judged-answered}
 use Rattle.mps_cards.proofs.splitting.split.Goals as goal
 
 pub returns : goal.returns
-returns c = λ keep whole same.
-    rw (← judged-answered c.args.line.now keep whole same c.requires, ← c.judged_columns.ensures) c.split_text.ensures
+returns c = λ keep whole same. rw (← c.counted_columns.ensures keep whole same) c.split_text.ensures

@@ -1,13 +1,13 @@
 use Rattle.std.proofs.Common.{◌∙◌, Err, ap, refl, subst}
 use Rattle.mps_reader.specs.Inner.Reached.{IsLineCause}
 use Rattle.mps_reader.proofs.NeededLemmas.{needed_next, unread}
-use Rattle.mps_reader.proofs.ReachedLemmas.{deck_read, end_refused, err_is, has_columns, lines_first, lines_next, lines_unmoved, next_stands, not_taken, reached_next, reached_start, read_failed, refused_line, rises, stands_at_end, stands_behind, still_sound}
+use Rattle.mps_reader.proofs.ReachedLemmas.{deck_read, end_refused, err_is, has_bytes, lines_first, lines_next, lines_unmoved, next_stands, not_taken, reached_next, reached_start, read_failed, refused_line, rises, stands_at_end, stands_behind, still_sound}
 use Rattle.mps_reader.proofs.reading.read_deck.Goals as goal
 
 pub lines-init : goal.lines-init
 lines-init g c = record {
-  reached = reached_start (g.S.Source.remaining c.args.source.now) c.args.lines.now c.in-Ok.draft c.requires c.in-Ok.ensures;
-  needed = unread c.args.lines.now.kept (g.S.Source.remaining c.args.source.now);
+  reached = reached_start c.args.form (g.S.Source.remaining c.args.source.now) c.args.lines.now c.in-Ok.draft c.requires c.in-Ok.ensures;
+  needed = unread c.args.form c.args.lines.now.kept (g.S.Source.remaining c.args.source.now);
   stays = refl;
 }
 
@@ -15,82 +15,82 @@ pub returns-in_default-clause-rest : goal.returns-in_default-clause-rest
 returns-in_default-clause-rest g c = λ sound. lines_first (g.S.Source.remaining c.args.source.now) c.args.lines.now c.requires
 
 pub returns-in_default-clause-needed : goal.returns-in_default-clause-needed
-returns-in_default-clause-needed g c = unread c.args.lines.now.kept (g.S.Source.remaining c.args.source.now)
+returns-in_default-clause-needed g c = unread c.args.form c.args.lines.now.kept (g.S.Source.remaining c.args.source.now)
 
 pub returns-in-Err-clause-rest : goal.returns-in-Err-clause-rest
-returns-in-Err-clause-rest g c = λ sound. lines_unmoved _ _ _ c.lines.lines c.lines.draft c.lines.invariant.reached c.next_line.new.lines _ (c.in-Err.ensures.unmoved sound)
+returns-in-Err-clause-rest g c = λ sound. lines_unmoved _ _ _ _ c.lines.lines c.lines.draft c.lines.invariant.reached c.next_line.new.lines _ (c.in-Err.ensures.unmoved sound)
 
 pub returns-in-Err-clause-fault : goal.returns-in-Err-clause-fault
-returns-in-Err-clause-fault g c = refused_line _ _ _ c.lines.lines c.lines.draft c.lines.invariant.reached _ _ _ c.in-Err.fault c.in-Err.ensures.fault
+returns-in-Err-clause-fault g c = refused_line _ _ _ _ c.lines.lines c.lines.draft c.lines.invariant.reached _ _ _ c.in-Err.fault c.in-Err.ensures.fault
 
 pub returns-in-Err-clause-needed : goal.returns-in-Err-clause-needed
-returns-in-Err-clause-needed g c = needed_next _ _ _ _ c.lines.lines c.lines.draft c.lines.invariant.reached c.in-Err.ensures.needed c.lines.invariant.needed
+returns-in-Err-clause-needed g c = needed_next _ _ _ _ _ c.lines.lines c.lines.draft c.lines.invariant.reached c.in-Err.ensures.needed c.lines.invariant.needed
 
 pub returns-in-Err-clause-read : goal.returns-in-Err-clause-read
 returns-in-Err-clause-read g c = λ is.
     let f = err_is _ _ _ is in
-    read_failed _ _ _ c.lines.lines c.lines.draft c.lines.invariant.reached _ _ _
+    read_failed _ _ _ _ c.lines.lines c.lines.draft c.lines.invariant.reached _ _ _
     (subst (IsLineCause c.lines.lines (g.S.Source.remaining c.lines.source) (g.S.Source.remaining c.next_line.new.source)
     (g.S.Source.fault_count c.lines.source) (g.S.Source.fault_count c.next_line.new.source)) f c.in-Err.ensures.fault)
 
 pub returns-in-Err-clause-stays : goal.returns-in-Err-clause-stays
 returns-in-Err-clause-stays g c = λ other. c.in-Err.ensures.stays (λ is. other (ap Err (err_is _ _ _ is))) ∙ c.lines.invariant.stays
 
-pub take_line-requires-clause-columns : goal.take_line-requires-clause-columns
-take_line-requires-clause-columns g c = has_columns c.lines.lines c.next_line.new.lines _ _ c.in-Ok-next_line.line c.in-Ok-next_line.ensures.line
+pub take_line-requires-clause-bytes : goal.take_line-requires-clause-bytes
+take_line-requires-clause-bytes g c = has_bytes c.args.form c.lines.lines c.next_line.new.lines _ _ c.in-Ok-next_line.line c.in-Ok-next_line.ensures.line
 
 pub returns-in-Err-take_line-clause-rest : goal.returns-in-Err-take_line-clause-rest
-returns-in-Err-take_line-clause-rest g c = λ sound. lines_next _ _ _ c.lines.lines c.lines.draft c.lines.invariant.reached c.next_line.new.lines _
+returns-in-Err-take_line-clause-rest g c = λ sound. lines_next _ _ _ _ c.lines.lines c.lines.draft c.lines.invariant.reached c.next_line.new.lines _
     c.take_line.new.draft _ c.in-Ok-next_line.ensures.line
 
 pub returns-in-Err-take_line-clause-after : goal.returns-in-Err-take_line-clause-after
-returns-in-Err-take_line-clause-after g c = stands_behind _ _ _ c.lines.lines c.lines.draft c.lines.invariant.reached c.next_line.new.lines _
+returns-in-Err-take_line-clause-after g c = stands_behind _ _ _ _ c.lines.lines c.lines.draft c.lines.invariant.reached c.next_line.new.lines _
     c.take_line.new.draft _ c.in-Ok-next_line.ensures.line _ c.in-Err-take_line.fault c.in-Err-take_line.ensures.taken c.in-Err-take_line.ensures.no_read
 
 pub returns-in-Err-take_line-clause-fault : goal.returns-in-Err-take_line-clause-fault
-returns-in-Err-take_line-clause-fault g c = not_taken _ _ _ c.lines.lines c.lines.draft c.lines.invariant.reached c.next_line.new.lines _ c.take_line.new.draft
+returns-in-Err-take_line-clause-fault g c = not_taken _ _ _ _ c.lines.lines c.lines.draft c.lines.invariant.reached c.next_line.new.lines _ c.take_line.new.draft
     _ c.in-Ok-next_line.ensures.line c.in-Err-take_line.fault c.in-Err-take_line.ensures.taken
 
 pub returns-in-Err-take_line-clause-needed : goal.returns-in-Err-take_line-clause-needed
-returns-in-Err-take_line-clause-needed g c = needed_next _ _ _ _ c.lines.lines c.lines.draft c.lines.invariant.reached c.in-Ok-next_line.ensures.needed c.lines.invariant.needed
+returns-in-Err-take_line-clause-needed g c = needed_next _ _ _ _ _ c.lines.lines c.lines.draft c.lines.invariant.reached c.in-Ok-next_line.ensures.needed c.lines.invariant.needed
 
 pub into_deck-requires : goal.into_deck-requires
-into_deck-requires g c = next_stands _ _ _ c.lines.lines c.lines.draft c.lines.invariant.reached c.next_line.new.lines _ c.take_line.new.draft _
+into_deck-requires g c = next_stands _ _ _ _ c.lines.lines c.lines.draft c.lines.invariant.reached c.next_line.new.lines _ c.take_line.new.draft _
     c.in-Ok-next_line.ensures.line c.in_default-take_line.ensures.taken
 
 pub returns-then-has_finished-clause-deck : goal.returns-then-has_finished-clause-deck
-returns-then-has_finished-clause-deck g c = deck_read _ _ _ c.lines.lines c.lines.draft c.lines.invariant.reached c.next_line.new.lines _ c.take_line.new.draft
+returns-then-has_finished-clause-deck g c = deck_read _ _ _ _ c.lines.lines c.lines.draft c.lines.invariant.reached c.next_line.new.lines _ c.take_line.new.draft
     _ c.in-Ok-next_line.ensures.line c.in_default-take_line.ensures.taken c.has_finished.result c.has_finished.ensures c.if-has_finished.true c.into_deck.result
     c.into_deck.ensures.end
 
 pub returns-then-has_finished-clause-rest : goal.returns-then-has_finished-clause-rest
-returns-then-has_finished-clause-rest g c = λ sound. lines_next _ _ _ c.lines.lines c.lines.draft c.lines.invariant.reached c.next_line.new.lines _
+returns-then-has_finished-clause-rest g c = λ sound. lines_next _ _ _ _ c.lines.lines c.lines.draft c.lines.invariant.reached c.next_line.new.lines _
     c.take_line.new.draft _ c.in-Ok-next_line.ensures.line
 
 pub returns-then-has_finished-clause-after : goal.returns-then-has_finished-clause-after
-returns-then-has_finished-clause-after g c = stands_at_end _ _ _ c.lines.lines c.lines.draft c.lines.invariant.reached c.next_line.new.lines _
+returns-then-has_finished-clause-after g c = stands_at_end _ _ _ _ c.lines.lines c.lines.draft c.lines.invariant.reached c.next_line.new.lines _
     c.take_line.new.draft _ c.in-Ok-next_line.ensures.line c.in_default-take_line.ensures.taken c.into_deck.result c.into_deck.ensures.end
     c.into_deck.ensures.no_read
 
 pub returns-then-has_finished-clause-sound : goal.returns-then-has_finished-clause-sound
-returns-then-has_finished-clause-sound g c = still_sound _ _ _ c.lines.lines c.lines.draft c.lines.invariant.reached c.next_line.new.lines _
+returns-then-has_finished-clause-sound g c = still_sound _ _ _ _ c.lines.lines c.lines.draft c.lines.invariant.reached c.next_line.new.lines _
     c.take_line.new.draft _ c.in-Ok-next_line.ensures.line c.into_deck.result
 
 pub returns-then-has_finished-clause-fault : goal.returns-then-has_finished-clause-fault
-returns-then-has_finished-clause-fault g c = end_refused _ _ _ c.lines.lines c.lines.draft c.lines.invariant.reached c.next_line.new.lines _
+returns-then-has_finished-clause-fault g c = end_refused _ _ _ _ c.lines.lines c.lines.draft c.lines.invariant.reached c.next_line.new.lines _
     c.take_line.new.draft _ c.in-Ok-next_line.ensures.line c.in_default-take_line.ensures.taken c.has_finished.result c.has_finished.ensures
     c.if-has_finished.true c.into_deck.result c.into_deck.ensures.end
 
 pub returns-then-has_finished-clause-needed : goal.returns-then-has_finished-clause-needed
-returns-then-has_finished-clause-needed g c = needed_next _ _ _ _ c.lines.lines c.lines.draft c.lines.invariant.reached c.in-Ok-next_line.ensures.needed c.lines.invariant.needed
+returns-then-has_finished-clause-needed g c = needed_next _ _ _ _ _ c.lines.lines c.lines.draft c.lines.invariant.reached c.in-Ok-next_line.ensures.needed c.lines.invariant.needed
 
 pub lines-smaller : goal.lines-smaller
-lines-smaller g c = rises _ _ _ c.lines.lines c.lines.draft c.lines.invariant.reached c.next_line.new.lines _ c.take_line.new.draft _ c.in-Ok-next_line.ensures.line
+lines-smaller g c = rises _ _ _ _ c.lines.lines c.lines.draft c.lines.invariant.reached c.next_line.new.lines _ c.take_line.new.draft _ c.in-Ok-next_line.ensures.line
 
 pub lines-preserved : goal.lines-preserved
 lines-preserved g c = record {
-  reached = reached_next _ _ _ c.lines.lines c.lines.draft c.lines.invariant.reached c.next_line.new.lines _ c.take_line.new.draft _
+  reached = reached_next _ _ _ _ c.lines.lines c.lines.draft c.lines.invariant.reached c.next_line.new.lines _ c.take_line.new.draft _
       c.in-Ok-next_line.ensures.line c.in_default-take_line.ensures.taken c.has_finished.result c.has_finished.ensures c.if-has_finished.false;
-  needed = needed_next _ _ _ _ c.lines.lines c.lines.draft c.lines.invariant.reached c.in-Ok-next_line.ensures.needed c.lines.invariant.needed;
+  needed = needed_next _ _ _ _ _ c.lines.lines c.lines.draft c.lines.invariant.reached c.in-Ok-next_line.ensures.needed c.lines.invariant.needed;
   stays = c.in-Ok-next_line.ensures.stays (λ is. cc) ∙ c.lines.invariant.stays;
 }

@@ -6,8 +6,8 @@ use Rattle.mps_reader.proofs.reading.read_deck.Given as goal
 
 abbrev pub invariant-lines : goal.invariant-lines
 invariant-lines g l = record {
-  reached : Reached l.fn.lines.kept (g.S.Source.remaining l.fn.source) (g.S.Source.remaining l.source) l.lines l.draft;
-  needed : IsReadAsNeeded l.fn.lines.kept (g.S.Source.remaining l.fn.source) (g.S.Source.remaining l.source);
+  reached : Reached l.form l.fn.lines.kept (g.S.Source.remaining l.fn.source) (g.S.Source.remaining l.source) l.lines l.draft;
+  needed : IsReadAsNeeded l.form l.fn.lines.kept (g.S.Source.remaining l.fn.source) (g.S.Source.remaining l.source);
   stays : g.S.Source.fault_count l.source ≡ g.S.Source.fault_count l.fn.source;
 }
 

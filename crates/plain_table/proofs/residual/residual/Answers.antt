@@ -2,9 +2,11 @@
 use Rattle.std.proofs.Common.{◌-◌, ◌<◌, refl, ◌∙◌, ap, arith}
 use Rattle.lp_model.specs.Deck.{Interval}
 use Rattle.rational.specs.Sparse.{entry_at}
+use Rattle.rational.specs.Rational.{ℚ}
 use Rattle.rational.specs.Worked.{settle}
 use Rattle.rational.proofs.Loops.{all_worked, step_settles, step_stops}
 use Rattle.lp_run.specs.Instance.{start_value, structural, structural_count}
+use Rattle.sparse_cols.specs.Sparse.{Sparse}
 use Rattle.sparse_steps.proofs.Steps.{refused}
 use Rattle.plain_table.specs.Inner.Costs.{factors_from, priced}
 use Rattle.plain_table.proofs.Pricing.{priced_end, priced_start, priced_step}
@@ -30,7 +32,7 @@ returns-in_err-rest-clause-settled g c =
     let value = c.start_value-value.ensures ∙ ap (λ (i : Interval). start_value i) (c.bounds.ensures ∙ structural_bounds inst j within) in
     refused _ _ _ (λ x. x)
     (step_stops _ _ c.loop-j.invariant.width _ _ _ (priced_step (λ j. entry_at (structural inst j).entries c.args.row)
-    (λ j. start_value (structural inst j).bounds) j (structural_count inst) c.loop-j.rest _ _ within c.entry.ensures value)
+    (λ j. start_value (structural inst j).bounds) j (structural_count inst) c.loop-j.rest _ _ within (c.entry.ensures ∙ ap (λ (s : Sparse ℚ). entry_at s.pairs c.args.row) c.entries.ensures) value)
     _ c.loop-j.invariant.left c.in_err-rest.ensures.settled)
     c.from_residual.ensures.1
 
@@ -44,7 +46,7 @@ loop-j-preserved g c =
       width = c.less_product.ensures.width ∙ c.loop-j.invariant.width;
       unfit = c.in_ok-rest.ensures.unfit ∙ c.loop-j.invariant.unfit;
       left = step_settles _ _ c.loop-j.invariant.width _ _ _ (priced_step (λ j. entry_at (structural inst j).entries c.args.row)
-          (λ j. start_value (structural inst j).bounds) j (structural_count inst) c.loop-j.rest _ _ within c.entry.ensures value)
+          (λ j. start_value (structural inst j).bounds) j (structural_count inst) c.loop-j.rest _ _ within (c.entry.ensures ∙ ap (λ (s : Sparse ℚ). entry_at s.pairs c.args.row) c.entries.ensures) value)
           _ c.loop-j.invariant.left _ c.in_ok-rest.ensures.settled;
     }
 

@@ -29,6 +29,7 @@ loop-i-preserved g c =
     record {
       width = c.value_after.ensures.width ∙ c.loop-i.invariant.width;
       unfit = c.in-Ok.ensures.unfit ∙ c.loop-i.invariant.unfit;
+      work = omega (arith, c.loop-i.invariant.work, c.in-Ok.ensures.work);
       count = length-set c.loop-i.out i c.in-Ok.value ∙ c.loop-i.invariant.count;
       moved = set_next (λ k. (value_work (eqb k c.args.position) c.args.down c.args.rest (at values k) (at column k) c.args.ratio).answer) c.loop-i.out i
           c.in-Ok.value within_out c.loop-i.invariant.moved

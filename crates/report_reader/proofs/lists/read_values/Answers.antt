@@ -1,5 +1,8 @@
 use Rattle.std.proofs.Common.{◌≡◌, ◌<◌, ◌+◌, [], ◌∷◌, ◌++◌, length, refl, sym, ◌∙◌, ap, subst, arith}
+use Rattle.std.specs.List.{All}
 use Rattle.std.proofs.lemmas.List.{length-append}
+use Rattle.std.proofs.lemmas.List.Elements.{All-nil}
+use Rattle.rational.specs.Width.{FitsWidth}
 use Rattle.lp_model.specs.Edit.{new_deck}
 use Rattle.cert_text.specs.Names.{names_of}
 use Rattle.report_lines.specs.FirstFlaw.{values}
@@ -14,8 +17,10 @@ loop-index-init g c = record {
   ready = c.requires;
   count = ap length c.new-list.ensures.items;
   taken = λ d. none_yet d g.S.Source.remaining g.S.Source.fault_count _ _ (values c.args.word.now (names_of c.args.names.now))
-      (AreSoFar c.args.word.now (names_of c.args.names.now) c.new-list.result.items) c.requires
-      (ap (λ vs. so_far c.args.word.now vs (names_of c.args.names.now)) (sym c.new-list.ensures.items));
+      (AreSoFar c.args.word.now (names_of c.args.names.now) c.new-list.result.items) c.requires (
+        ap (λ vs. so_far c.args.word.now vs (names_of c.args.names.now)) (sym c.new-list.ensures.items),
+        subst (All (FitsWidth 127)) (sym c.new-list.ensures.items) (All-nil (FitsWidth 127)),
+      );
 }
 
 pub read_value-requires : goal.read_value-requires
@@ -51,4 +56,4 @@ returns g c = λ d.
     let names = names_of c.args.names.now in
     let n : length c.loop-index.list.items ≡ length names = omega (arith, c.loop-index.invariant.count) in
     finished (c.loop-index.invariant.taken d) (values_end c.args.word.now names c.loop-index.index (omega arith))
-    (λ ls h. subst (λ v. IsValues c.args.word.now names v ls) (sym c.of.ensures) (n, h ∙ so_far_all c.args.word.now c.loop-index.list.items names n))
+    (λ ls h. subst (λ v. IsValues c.args.word.now names v ls) (sym c.of.ensures) ((n, h.1), h.0 ∙ so_far_all c.args.word.now c.loop-index.list.items names n))

@@ -20,6 +20,6 @@ returns g c =
     (values (codes "FARKAS") (row_names c.args.deck.now)) (λ ls. ls ≡ []) c.requires refl in
     finished
     (taken [] (IsOutcome c.args.deck.now (codes "INFEASIBLE") (Infeasible c.in_ok-y.y)) (sym (append-nil (values (codes "FARKAS") (row_names c.args.deck.now))))
-    (λ ls ms a b. (b.0 ∙ row_names_length c.args.deck.now, ap (λ t. codes "INFEASIBLE" ∷ t) (ap₂ (λ (p q : List (List ℕ)). p ++ q) a b.1))) start
+    (λ ls ms a b. ((b.0.0 ∙ row_names_length c.args.deck.now, b.0.1), ap (λ t. codes "INFEASIBLE" ∷ t) (ap₂ (λ (p q : List (List ℕ)). p ++ q) a b.1))) start
     (c.in_ok-y.ensures c.args.deck.now))
     refl (λ ls h. h)

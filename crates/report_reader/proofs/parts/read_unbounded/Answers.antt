@@ -35,7 +35,7 @@ returns g c =
     (taken [] (IsOutcome c.args.deck.now (codes "UNBOUNDED") (Unbounded c.in_ok-x.x c.in_ok-ray.ray))
     (sym (append-nil (values (codes "RAY") (column_names c.args.deck.now))))
     (λ ls ms a b. (
-      (a.0 ∙ names_length c.args.deck.now, b.0 ∙ names_length c.args.deck.now),
+      ((a.0.0 ∙ names_length c.args.deck.now, b.0.0 ∙ names_length c.args.deck.now), (a.0.1, b.0.1)),
       ap (λ t. codes "UNBOUNDED" ∷ t)
           (ap₂ (λ (p q : List (List ℕ)). p ++ q) a.1 b.1),
     ))

@@ -26,7 +26,7 @@ returns c = λ s h none.
       with_free_row s c.args.name,
       refl,
       free_row_added draft s h c.requires.rows c.args.name (record c.if-is_empty.self { free_rows = c.insert.new.self })
-          (ap (λ m. m.begun) named) (ap (λ m. m.set) named) (ap (λ m. m.named) named) (ap (λ m. m.bounds) named) (ap (λ m. m.deck) named)
+          (ap (λ m. m.begun) named) (ap (λ m. m.awaits_sense) named) (ap (λ m. m.set) named) (ap (λ m. m.named) named) (ap (λ m. m.bounds) named) (ap (λ m. m.deck) named)
           (inserted keys c.insert.new.self.keys c.args.name
           (c.in_ok-insert.ensures.keys
           ∙ ap (λ m. if list_any (pointwise nat_eq c.args.name) m.free_rows.keys then m.free_rows.keys else m.free_rows.keys ++ c.args.name ∷ []) named)

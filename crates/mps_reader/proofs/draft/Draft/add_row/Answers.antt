@@ -25,10 +25,10 @@ add_row-requires-clause-no_column c = no_column c.args.self.now c.requires.stand
 pub returns : goal.returns
 returns c = λ s h none.
     let draft = c.args.self.now in
-    let kept = row_added draft s h c.requires.rows c.args.name c.args.kind (record draft { deck = c.add_row.new.self }) refl refl refl refl (c.in_ok-add_row.ensures.ok) refl in
+    let kept = row_added draft s h c.requires.rows c.args.name c.args.kind (record draft { deck = c.add_row.new.self }) refl refl refl refl refl (c.in_ok-add_row.ensures.ok) refl in
     (record s { deck = with_row s.deck c.args.name c.args.kind }, room draft s h c.requires.rows c.args.name c.args.kind (omega arith), kept)
 
 pub returns-in_err-add_row : goal.returns-in_err-add_row
 returns-in_err-add_row c = λ s h none.
-    let apart = fresh c.args.self.now s h c.requires.rows c.args.name c.requires.short none in
+    let apart = fresh c.args.self.now s h c.requires.rows c.args.name c.requires.spelled none in
     only_memory _ _ c.in_err-add_row.field-0.0 c.from_residual.result (λ e. let there = c.in_err-add_row.ensures.repeated.0 (ap Err e) in cc (there, apart)) c.from_residual.ensures

@@ -1,0 +1,32 @@
+use Rattle.std.proofs.Common.{◌≡◌, ℕ, length, Some, sym, ◌∙◌, ap, subst}
+use Rattle.rational.specs.Worked.{settle}
+use Rattle.factor_model.specs.Factoring.{made_factors}
+use Rattle.factor_model.specs.Factors.{Factors, AreFactors}
+use Rattle.markowitz_lu.specs.Columns.{matrix_of}
+use Rattle.ftran_btran.specs.Kept.{size}
+use Rattle.ftran_btran.proofs.Making.{made-represents, made-rows, made-within, made-few, made-settles}
+use Rattle.ftran_btran.proofs.Factors.make.Goals as goal
+
+pub of-requires-clause-within : goal.of-requires-clause-within
+of-requires-clause-within g c = made-within (g.A.Arith.width c.args.arith.now) c.args.m c.args.base (matrix_of c.args.columns.now) c.in-Ok.etas c.in-Ok.upper c.in-Ok.ensures.settled
+
+pub of-requires-clause-few : goal.of-requires-clause-few
+of-requires-clause-few g c = made-few (g.A.Arith.width c.args.arith.now) c.args.m c.args.base (matrix_of c.args.columns.now) c.in-Ok.etas c.in-Ok.upper c.in-Ok.ensures.settled
+
+pub returns-in-Ok-clause-settled : goal.returns-in-Ok-clause-settled
+returns-in-Ok-clause-settled g c =
+    let w = g.A.Arith.width c.args.arith.now in
+    let b = matrix_of c.args.columns.now in
+    made-settles w c.args.m c.args.base b c.in-Ok.etas c.in-Ok.upper c.in-Ok.ensures.settled ∙ ap (λ (f : Factors). Some (Some f)) (sym c.of.ensures)
+
+pub returns-in-Ok-clause-represents : goal.returns-in-Ok-clause-represents
+returns-in-Ok-clause-represents g c =
+    let w = g.A.Arith.width c.args.arith.now in
+    let b = matrix_of c.args.columns.now in
+    subst (λ (f : Factors). AreFactors c.args.m f b) (sym c.of.ensures) (made-represents w c.args.m c.args.base b c.in-Ok.etas c.in-Ok.upper c.in-Ok.ensures.settled)
+
+pub returns-in-Ok-clause-size : goal.returns-in-Ok-clause-size
+returns-in-Ok-clause-size g c =
+    let w = g.A.Arith.width c.args.arith.now in
+    let b = matrix_of c.args.columns.now in
+    ap size c.of.ensures ∙ made-rows w c.args.m c.args.base b c.in-Ok.etas c.in-Ok.upper c.in-Ok.ensures.settled

@@ -1,0 +1,115 @@
+// A transport deck, made and solved.
+ghost use Rattle.std.specs.Prelude.{◌≡◌, ℕ, List, ◌≤◌, ◌++◌, ◌*◌, IfErr, IfOk, IsErrOf, OnOk, Some};
+ghost use Rattle.std.specs.Fmt.{decimal};
+ghost use Rattle.io_ends.specs.Count.{Rose};
+ghost use Rattle.deck_tools.specs.Transport.{transport};
+ghost use Rattle.deck_model.specs.Outcome.{outcome_of};
+ghost use Rattle.lp_model.specs.declared.Entry.{Entry};
+ghost use Rattle.lp_model.specs.Log.{moves};
+ghost use Rattle.lp_main.specs.Refusals.{ended};
+ghost use Rattle.lp_main.specs.Summaries.{GivesSummary, IsSummaryCause, outcome_line, summary};
+
+use crate::refusal::Refusal;
+use crate::solve::report_of;
+use crate::status::Answer;
+use crate::verdict_line::outcome_word;
+use crate::words::Asked;
+use cert_text::Report;
+use deck_model::{Log, Outcome};
+use deck_tools::make;
+use exact_frac::Arith;
+use io_ends::{Sink, write_all};
+use lp_text::Form;
+use no_memory::Memory;
+use std::alloc::Global;
+use std::thread::Threads;
+
+/// What is asked of the run of a made deck: its log, for the count of its moves.
+const ASKED: Asked = Asked {
+    form: Form::Fixed,
+    budget: 1_000_000,
+    log: true,
+    version: 1,
+};
+
+/// Appends a line with a number behind a word.
+fn put_number(text: &mut Vec<u8>, word: &[u8], number: u64) -> Result<(), Memory>
+    ensures { OnOk result (text.new.items ≡ text.old.items ++ ended (word.now ++ decimal number)) }
+{
+    let digits = number.to_string(*text.allocator())?;
+    text.extend_from_slice(word)?;
+    text.extend_from_slice(digits.as_bytes())?;
+    text.push(b'\n')?;
+    Ok(())
+}
+
+/// Appends the line of an outcome.
+fn put_outcome(text: &mut Vec<u8>, outcome: &Outcome) -> Result<(), Memory>
+    ensures { OnOk result (text.new.items ≡ text.old.items ++ ended (outcome_line (outcome_of outcome.now))) }
+{
+    match outcome {
+        Outcome::Optimal { objective, .. } => {
+            text.extend_from_slice(b"OBJECTIVE ")?;
+            frac_text::append(text, *objective)?;
+        }
+        _ => text.extend_from_slice(outcome_word(outcome).as_bytes())?,
+    }
+    text.push(b'\n')?;
+    Ok(())
+}
+
+/// How many moves a log has.
+fn moves_of(log: &Option<Log>) -> u64
+    ensures { (entries : List Entry) → log.now ≡ Some entries → result ≡ moves entries }
+{
+    match log {
+        Some(log) => log.moves(),
+        None => 0,
+    }
+}
+
+/// The summary of the run of a deck of a size.
+fn summary(alloc: Global, size: u32, report: &Report) -> Result<Vec<u8>, Memory>
+    requires { size ≤ 20 }
+    ensures { IfOk result (λ text. (log : List Entry) → report.now.log ≡ Some log → text.items ≡ summary size log report.now.outcome) }
+{
+    let size = u64::from(size);
+    let mut text = Vec::new(alloc);
+    put_number(&mut text, b"MAKE ", size)?;
+    put_number(&mut text, b"ROWS ", 2 * size)?;
+    put_number(&mut text, b"COLUMNS ", size * size)?;
+    put_number(&mut text, b"MOVES ", moves_of(&report.log))?;
+    put_outcome(&mut text, &report.outcome)?;
+    Ok(text)
+}
+
+/// Makes the transport deck of a size, solves it, and writes what its run comes to.
+pub fn make_and_solve<R: Threads + Sync, K: Sink, A: Arith>(
+    rt: &R,
+    alloc: Global,
+    size: u32,
+    out: &mut K,
+    arith: &mut A,
+) -> Result<Answer, Refusal>
+    requires some { 1 ≤ size }
+    requires few { size ≤ 20 }
+    ensures done { IfOk result (λ answer. (answer ≡ Answer.Done) × GivesSummary size (K.contents out.old) (K.contents out.new)) }
+    ensures cause { IfErr result (IsSummaryCause size (A.width arith.old) (K.contents out.old) (K.contents out.new)) }
+    ensures no_read { ¬ IsErrOf result Refusal.Read }
+    ensures sink_rose { IsErrOf result Refusal.Write → Rose (K.fault_count out.old) (K.fault_count out.new) }
+    ensures sink_stays { ¬ IsErrOf result Refusal.Write → K.fault_count out.new ≡ K.fault_count out.old }
+    ensures sink_never_falls { K.fault_count out.old ≤ K.fault_count out.new }
+    ensures same_width { A.width arith.new ≡ A.width arith.old }
+{
+    let Ok(deck) = make(alloc, size) else {
+        return Err(Refusal::Memory);
+    };
+    let report = report_of(rt, alloc, ASKED, &deck, arith)?;
+    let Ok(text) = summary(alloc, size, &report) else {
+        return Err(Refusal::Memory);
+    };
+    match write_all(out, text.as_slice()) {
+        Ok(()) => Ok(Answer::Done),
+        Err(_) => Err(Refusal::Write),
+    }
+}

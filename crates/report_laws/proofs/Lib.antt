@@ -1,0 +1,11 @@
+pub mod Parts
+pub mod Numbers
+pub mod LineParts
+pub mod OneFlaw
+pub mod Worded
+pub mod OneEnd
+pub mod Reported
+pub mod InLines
+pub mod OneReport
+pub mod Telling
+pub mod Read

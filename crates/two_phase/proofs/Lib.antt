@@ -1,0 +1,10 @@
+pub mod Deciding
+pub mod Following
+pub mod Grounds
+pub mod Iterating
+pub mod Moving
+pub mod Plains
+pub mod Rounds
+pub mod Solving
+pub mod Starting
+pub mod Taking

@@ -1,0 +1,63 @@
+-- A run to its end: it is short, and what is asked at each state is exact.
+use Rattle.std.proofs.Common.{◌≡◌, ℕ, ◌+◌, ◌-◌, ◌*◌, ◌<◌, ◌≤◌, inl, List, [], ◌∷◌, ◌++◌, length, length-append, ◌∙◌, ap, arith}
+use Rattle.lp_model.specs.declared.Entry.{Entry}
+use Rattle.lp_model.specs.Log.{moves}
+use Rattle.lp_run.specs.Instance.{Instance, IsWellFormed}
+use Rattle.bland_laws.specs.Ends.{run_bound}
+use Rattle.bland_laws.proofs.Always.{instance_holds}
+use Rattle.bland_laws.proofs.Runs.{ends}
+use Rattle.bland_ratio.specs.Pricing.{IsExactPay, IsExactTicket, IsTicketOf, PaysEach}
+use Rattle.bland_ratio.specs.declared.tickets.Pay.{Pay}
+use Rattle.bland_ratio.specs.declared.tickets.Pay.TheVariants as pay
+use Rattle.bland_ratio.specs.declared.tickets.Ticket.{Ticket}
+use Rattle.plain_table.specs.declared.faults.TableFault.{TableFault}
+use Rattle.plain_table.specs.declared.faults.TableFault.TheVariants as fault
+use Rattle.two_phase.specs.declared.ground.Ground.{Ground}
+use Rattle.two_phase.specs.declared.ground.Ground.TheVariants as ground
+use Rattle.two_phase.specs.Inner.Grounds.{GroundStands, IsPlain, ground_state}
+use Rattle.two_phase.specs.Inner.Plains.{IsRunFault}
+use Rattle.two_phase.specs.Inner.Running.{IsSolveFault}
+use Rattle.two_phase.proofs.Grounds.{reached_by}
+
+-- an exact ticket has a status for each column, and a price for each row or a reduced cost for each column
+pub exact_ticket : (w : ℕ) (inst : Instance) → IsWellFormed inst → (log : List Entry) (g : Ground) → GroundStands w inst log g → (ticket : Ticket) → IsExactTicket inst (ground_state g) ticket
+    → IsTicketOf inst ticket
+exact_ticket w inst well_formed log g h ticket exact = record {
+  statuses = ap (λ st. length st) exact.statuses ∙ (instance_holds inst well_formed log (ground_state g) (reached_by w inst log g h)).each;
+  pays = by ticket.pay exact.exact;
+}
+  where
+    by : (p : Pay) → IsExactPay inst (ground_state g) p → PaysEach inst p
+    by (pay.Prices y) prices = prices.one_each
+    by (pay.Costs d) costs = costs.0
+
+pub solve_fault : (w : ℕ) (inst : Instance) (budget : ℕ) (log : List Entry) → moves log ≤ budget → (f : TableFault) → IsRunFault w inst log f → IsSolveFault w inst budget f
+solve_fault w inst budget log within fault.Memory h = tt
+solve_fault w inst budget log within (fault.Overflow here) (s, run, first) = (log, s, run, within, inl first)
+
+-- 1 while there are factors to give up
+abbrev pub left : Ground → ℕ
+left (ground.Factors it) = 1
+left (ground.Plain t) = 0
+
+left_most : (g : Ground) → left g ≤ 1
+left_most (ground.Factors it) = omega arith
+left_most (ground.Plain t) = omega arith
+
+short : (w : ℕ) (inst : Instance) → IsWellFormed inst → (log : List Entry) (g : Ground) → GroundStands w inst log g → length log < run_bound inst
+short w inst well_formed log g h = (ends inst well_formed).short log (ground_state g) (reached_by w inst log g h)
+
+-- with each entry the run comes nearer to its end
+pub nearer : (w : ℕ) (inst : Instance) → IsWellFormed inst → (log log' : List Entry) (e : Entry) (g g' : Ground) → log' ≡ log ++ e ∷ [] → GroundStands w inst log' g'
+    → 2 * (run_bound inst - length log') + left g' < 2 * (run_bound inst - length log) + left g
+nearer w inst well_formed log log' e g g' is h =
+    let more : length log' ≡ length log + 1 = ap length is ∙ length-append log (e ∷ []) in
+    let under = short w inst well_formed log' g' h in
+    let most = left_most g' in
+    omega arith
+
+-- and where factors are given up, they are given up for good
+pub given : (bound : ℕ) (log log' : List Entry) (g g' : Ground) → log' ≡ log → (IsPlain g → ⊥) → IsPlain g' → 2 * (bound - length log') + left g' < 2 * (bound - length log) + left g
+given bound log log' (ground.Factors it) (ground.Plain t) is was now = omega (arith, ap length is)
+given bound log log' (ground.Factors it) (ground.Factors it') is was now = absurd now
+given bound log log' (ground.Plain t) g' is was now = absurd (was tt)

@@ -1,0 +1,14 @@
+use Rattle.two_phase.proofs.Deciding.{decided, undecided}
+use Rattle.two_phase.proofs.decision.decide.Goals as goal
+
+pub returns-in-Ok-clause-decided : goal.returns-in-Ok-clause-decided
+returns-in-Ok-clause-decided g c =
+    let a = c.args in
+    decided a.inst.now c.requires.well_formed a.state.now a.values.now a.prices.now a.alpha.now a.q c.requires.column _ c.phase.result c.phase.ensures c.in_ok-cost.cost
+    c.in_ok-cost.ensures.settled c.falls-down.result c.falls-down.ensures c.in-Ok.leave c.in-Ok.ensures.decides
+
+pub returns-in-Err-clause-undecided : goal.returns-in-Err-clause-undecided
+returns-in-Err-clause-undecided g c =
+    let a = c.args in
+    undecided a.inst.now c.requires.well_formed a.state.now a.values.now a.prices.now a.alpha.now a.q c.requires.column _ c.phase.result c.phase.ensures c.in_ok-cost.cost
+    c.in_ok-cost.ensures.settled c.falls-down.result c.falls-down.ensures _ c.price.ensures.width c.in-Err.field-0 c.in-Err.ensures.unfit

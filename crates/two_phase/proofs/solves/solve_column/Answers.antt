@@ -1,0 +1,31 @@
+use Rattle.std.proofs.Common.{◌≡◌, ◌∙◌, None, sym, ap, subst}
+use Rattle.rational.specs.Worked.{settle}
+use Rattle.lp_run.specs.Solution.{basis_entry}
+use Rattle.factor_model.specs.Eta.{apply}
+use Rattle.factor_model.specs.Factors.{AreFactors, ftran}
+use Rattle.factor_run.specs.Built.{entering_column}
+use Rattle.ftran_btran.specs.Kept.{size}
+use Rattle.plain_table.proofs.Coming.{handed_on}
+use Rattle.two_phase.specs.Inner.Refusals.{Explains}
+use Rattle.two_phase.proofs.Solving.{column_there, vector_there}
+use Rattle.two_phase.proofs.solves.solve_column.Goals as goal
+
+pub returns-in_err-ftran-clause-refusal : goal.returns-in_err-ftran-clause-refusal
+returns-in_err-ftran-clause-refusal g c =
+    let a = c.args in
+    let w = g.A.Arith.width a.arith.now in
+    let there = vector_there a.inst.now a.q (size a.factors.now) c.in_ok-column.column c.requires.size c.in_ok-column.ensures in
+    handed_on _ (Explains (settle w (ftran a.factors.now (entering_column a.inst.now a.q)) ≡ None)) c.from_residual-in_err-ftran.ensures.1
+    (subst (λ v. settle w (ftran a.factors.now v) ≡ None) there c.in_err-ftran.ensures.settled)
+
+pub returns-clause-column : goal.returns-clause-column
+returns-clause-column g c s factors =
+    let a = c.args in
+    column_there a.inst.now a.q (size a.factors.now) c.in_ok-column.column c.requires.size c.in_ok-column.ensures s c.ftran.new.out (c.ftran.auto.out ∙ c.requires.alpha)
+    (c.in_ok-ftran.ensures.solves (basis_entry a.inst.now s) (subst (λ n. AreFactors n a.factors.now (basis_entry a.inst.now s)) (sym c.requires.size) factors))
+
+pub returns-clause-spike : goal.returns-clause-spike
+returns-clause-spike g c =
+    let a = c.args in
+    let there = vector_there a.inst.now a.q (size a.factors.now) c.in_ok-column.column c.requires.size c.in_ok-column.ensures in
+    c.in_ok-ftran.ensures.spike ∙ ap (λ v. (apply v a.factors.now.etas).answer) there

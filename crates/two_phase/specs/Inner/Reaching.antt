@@ -1,0 +1,46 @@
+-- What a step of a run comes to.
+use Rattle.std.specs.Prelude.{◌≡◌, ℕ, ◌≤◌, ◌⊎◌, List, [], ◌∷◌, ◌++◌, Option, Some, None, MatchOption, true}
+use Rattle.lp_model.specs.declared.Entry.{Entry}
+use Rattle.lp_model.specs.Log.{moves}
+use Rattle.rational.specs.Rational.{ℚ}
+use Rattle.lp_run.specs.Instance.{Instance}
+use Rattle.lp_run.specs.Run.{IsSpent}
+use Rattle.lp_model.specs.declared.Place.{Place}
+use Rattle.rational.specs.Worked.{settle}
+use Rattle.lp_run.specs.Listing.{first_unfit}
+use Rattle.lp_run.specs.Solution.{Prices, reduced}
+use Rattle.plain_table.specs.Inner.Starts.{start_values_listing}
+use Rattle.factor_run.specs.Built.{made_anew}
+use Rattle.lp_run.specs.State.{State, start_of}
+use Rattle.lp_run.specs.Step.{EndsFree, EndsInfeasible, EndsOptimal, Enters, IsNext, NoneEligible, direction}
+use Rattle.bland_ratio.specs.Leave.{direction_where}
+use Rattle.two_phase.specs.declared.iterate.Iterate.{Iterate}
+use Rattle.two_phase.specs.declared.reached.Reached.{Reached}
+use Rattle.two_phase.specs.declared.reached.Reached.TheVariants as reached
+use Rattle.two_phase.specs.declared.reached.Stop.{Stop}
+use Rattle.two_phase.specs.declared.reached.Stop.TheVariants as stop
+use Rattle.two_phase.specs.Inner.Iterates.{IsIterate}
+
+-- the run ends so, at the prices y and the basic values β; a column that moves without a limit is α in terms of the basis
+abbrev pub Stops : Instance → State → List ℚ → List ℚ → List ℚ → Stop → Type 0
+Stops inst s y β α stop.Optimal = EndsOptimal inst s y β
+Stops inst s y β α stop.Infeasible = EndsInfeasible inst s y β
+Stops inst s y β α (stop.Free q down) = EndsFree inst s y β α q × (direction (reduced inst s y q) ≡ direction_where down)
+
+-- the iterate's prices are worked, and the run ends so at its state
+abbrev pub StopsAt : Instance → Iterate → Stop → Type 0
+StopsAt inst it end = (it.is_priced ≡ true) × Stops inst it.state it.prices.items it.values.items it.alpha.items end
+
+-- a step from the iterate `old` of a log leads to the iterate `new`: it stands at the log with the next entry, or still at the log, where the run ends or the budget is spent
+abbrev pub Reaches : ℕ → Instance → ℕ → List Entry → State → List Entry → Iterate → Reached → Type 0
+Reaches w inst budget log s log' new (reached.Entry e) = IsNext inst s e × (log' ≡ log ++ e ∷ []) × IsIterate w inst log' new × (moves log' ≤ budget)
+Reaches w inst budget log s log' new (reached.End end) = (log' ≡ log) × IsIterate w inst log' new × StopsAt inst new end
+Reaches w inst budget log s log' new reached.Spent = (log' ≡ log) × IsIterate w inst log' new × IsSpent inst budget
+
+-- the column enters at the state, and where there is none, none is eligible
+abbrev pub IsChosen : Instance → State → Option ℕ → Type 0
+IsChosen inst s entering = (y : List ℚ) × Prices inst s y × MatchOption entering (NoneEligible inst s y) (Enters inst s y)
+
+-- a basic value at the start does not fit the width, or a value that is worked for the factors of the start
+abbrev pub IsUnstarted : ℕ → Instance → Type 0
+IsUnstarted w inst = ((here : Place) × (first_unfit w (start_values_listing inst) ≡ Some here)) ⊎ (settle w (made_anew inst (start_of inst) 0) ≡ None)

@@ -1,0 +1,129 @@
+//! The start of a run, and what its grounds ask of a round of pricing.
+ghost use Rattle.std.specs.Prelude.{◌≡◌, ◌≤◌, ℕ, List, [], None, length, IfErr, IfOk, IfSome, OnErr, OnOk};
+ghost use Rattle.lp_run.specs.Instance.{IsWellFormed};
+ghost use Rattle.lp_run.specs.Listing.{StartFits};
+ghost use Rattle.lp_model.specs.declared.Entry.{Entry as LogEntry};
+ghost use Rattle.bland_ratio.specs.Pricing.{IsExactTicket};
+
+use crate::ground::Ground;
+use crate::iterate::Iterate;
+use crate::refusal::Refusal;
+use crate::tickets::{costs_ticket, prices_ticket};
+use bland_ratio::Ticket;
+use deck_model::Log;
+use exact_frac::Arith;
+use instance_model::Instance;
+use no_memory::Memory;
+use plain_table::{Table, TableFault};
+use std::alloc::Global;
+use std::thread::Threads;
+
+impl Ground {
+    ghost use Rattle.two_phase.specs.Inner.Grounds.{GivesUp, GroundStands, HasCause, IsPlain, ground_state};
+    ghost use Rattle.two_phase.specs.Inner.Plains.{IsRunFault};
+
+    // The ticket of a state over factors, where there are; none where a price does not fit.
+    fn ask_factors<A: Arith>(
+        &mut self,
+        alloc: Global,
+        inst: &Instance,
+        log: &Log,
+        arith: &mut A,
+    ) -> Result<Option<Ticket>, Memory>
+        requires { GroundStands (A.width arith.old) inst.now log.now self.old }
+        ensures exact { IfOk result (λ asked. IfSome asked (IsExactTicket inst.now (ground_state self.new))) }
+        ensures number { IfOk result (λ asked. IfSome asked (λ ticket. ticket.number ≡ length log.now)) }
+        ensures stands { GroundStands (A.width arith.old) inst.now log.now self.new }
+        ensures given_up { GivesUp (A.width arith.old) inst.now log.now self.old self.new }
+        ensures plain_stays { IsPlain self.old → IsPlain self.new }
+        ensures left { IfOk result (λ asked. asked ≡ None → HasCause (A.width arith.old) inst.now log.now self.old) }
+        ensures state { ground_state self.new ≡ ground_state self.old }
+        ensures width { A.width arith.new ≡ A.width arith.old }
+        ensures unfit { A.unfit_count arith.old ≤ A.unfit_count arith.new }
+    {
+        match self {
+            Ground::Plain(_) => Ok(None),
+            Ground::Factors(iterate) => {
+                match prices_ticket(alloc, inst, log.len() as u64, iterate, arith) {
+                    Ok(ticket) => Ok(Some(ticket)),
+                    Err(Refusal::Memory) => Err(Memory),
+                    Err(Refusal::Unfit) => Ok(None),
+                }
+            }
+        }
+    }
+
+    // The ticket of a state over the plain table.
+    fn ask_table(&self, alloc: Global, inst: &Instance) -> Result<Ticket, Memory>
+        requires plain { IsPlain self.now }
+        requires stands { (w : ℕ) × (log : List LogEntry) × GroundStands w inst.now log self.now }
+        ensures exact { IfOk result (IsExactTicket inst.now (ground_state self.now)) }
+        ensures number { (w : ℕ) (log : List LogEntry) → GroundStands w inst.now log self.now → IfOk result (λ ticket. ticket.number ≡ length log) }
+    {
+        match self {
+            Ground::Plain(table) => costs_ticket(alloc, inst, table),
+            Ground::Factors(_) => unreachable!(),
+        }
+    }
+
+    /// The ticket of the state that the log reaches: with its prices, or where the factors are given up with its
+    /// reduced costs.
+    ///
+    /// # Errors
+    ///
+    /// `Overflow` with the place of the first value of the run that does not fit the width, `Memory` for want of memory.
+    pub fn ticket<R: Threads + Sync, A: Arith>(
+        &mut self,
+        rt: &R,
+        alloc: Global,
+        inst: &Instance,
+        log: &Log,
+        arith: &mut A,
+    ) -> Result<Ticket, TableFault>
+        requires well_formed { IsWellFormed inst.now }
+        requires fits { StartFits (A.width arith.old) inst.now }
+        requires stands { GroundStands (A.width arith.old) inst.now log.now self.old }
+        ensures exact { IfOk result (IsExactTicket inst.now (ground_state self.new)) }
+        ensures number { IfOk result (λ ticket. ticket.number ≡ length log.now) }
+        ensures stands { GroundStands (A.width arith.old) inst.now log.now self.new }
+        ensures given_up { GivesUp (A.width arith.old) inst.now log.now self.old self.new }
+        ensures plain_stays { IsPlain self.old → IsPlain self.new }
+        ensures state { ground_state self.new ≡ ground_state self.old }
+        ensures fault { IfErr result (IsRunFault (A.width arith.old) inst.now log.now) }
+        ensures width { A.width arith.new ≡ A.width arith.old }
+        ensures unfit { A.unfit_count arith.old ≤ A.unfit_count arith.new }
+    {
+        if let Some(ticket) = self.ask_factors(alloc, inst, log, arith)? {
+            return Ok(ticket);
+        }
+        self.give_up(rt, alloc, inst, log, arith)?;
+        Ok(self.ask_table(alloc, inst)?)
+    }
+
+    /// The ground of the start: factors, or where a value that is worked for them does not fit the plain table.
+    ///
+    /// # Errors
+    ///
+    /// `Overflow` with the place of the first value of the making that does not fit the width, `Memory` for want of memory.
+    pub fn start<A: Arith>(
+        alloc: Global,
+        inst: &Instance,
+        arith: &mut A,
+    ) -> Result<Ground, TableFault>
+        requires well_formed { IsWellFormed inst.now }
+        requires fits { StartFits (A.width arith.old) inst.now }
+        ensures stands { IfOk result (GroundStands (A.width arith.old) inst.now []) }
+        ensures fault { IfErr result (IsRunFault (A.width arith.old) inst.now []) }
+        ensures width { A.width arith.new ≡ A.width arith.old }
+        ensures unfit { A.unfit_count arith.old ≤ A.unfit_count arith.new }
+    {
+        match Iterate::start(alloc, inst, arith) {
+            Ok(iterate) => Ok(Ground::Factors(iterate)),
+            Err(Refusal::Memory) => Err(TableFault::Memory),
+            Err(Refusal::Unfit) => match Table::start(alloc, inst, arith) {
+                Ok(table) => Ok(Ground::Plain(table)),
+                Err(fault) => Err(fault),
+            },
+        }
+    }
+}

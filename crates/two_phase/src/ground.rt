@@ -1,0 +1,219 @@
+//! What a run stands on: factors of its state's basis, or, where they are given up, the plain table.
+ghost use Rattle.std.specs.Prelude.{◌≡◌, ◌≤◌, ◌↔◌, ℕ, None, IsTrue, true, false, IfErr, IfOk, IfSome, OnErr, OnOk};
+ghost use Rattle.lp_model.specs.Log.{moves};
+ghost use Rattle.lp_run.specs.Instance.{IsWellFormed};
+ghost use Rattle.lp_run.specs.Listing.{StartFits};
+ghost use Rattle.bland_ratio.specs.Pricing.{IsExactChoice};
+ghost use Rattle.plain_table.specs.Answers.{IsRunLog};
+
+use crate::iterate::Iterate;
+use crate::plain::{advance_on, replay};
+use crate::reached::Reached;
+use crate::refusal::Refusal;
+use bland_ratio::Choice;
+use deck_model::Log;
+use exact_frac::Arith;
+use instance_model::Instance;
+use no_memory::Memory;
+use plain_table::{Table, TableFault};
+use std::alloc::Global;
+use std::thread::Threads;
+
+/// What a run stands on.
+#[derive(Drop)]
+pub enum Ground {
+    /// Factors of the basis, with the basic values.
+    Factors(Iterate),
+    /// The plain table.
+    Plain(Table),
+}
+
+impl Ground {
+    ghost use Rattle.two_phase.specs.Inner.Grounds.{GivesUp, GroundReaches, GroundStands, HasCause, IsPlain, ground_state};
+    ghost use Rattle.two_phase.specs.Inner.Plains.{IsRunFault};
+    ghost use Rattle.two_phase.specs.Inner.Reaching.{IsChosen};
+
+    // Goes on over the factors, where there are; none where they meet a value that does not fit.
+    fn over_factors<A: Arith>(
+        &mut self,
+        alloc: Global,
+        inst: &Instance,
+        budget: u64,
+        log: &mut Log,
+        entering: Option<u32>,
+        arith: &mut A,
+    ) -> Result<Option<Reached>, Memory>
+        requires well_formed { IsWellFormed inst.now }
+        requires stands { GroundStands (A.width arith.old) inst.now log.old self.old }
+        requires chosen { IsChosen inst.now (ground_state self.old) entering }
+        requires within { moves log.old ≤ budget }
+        ensures reached { IfOk result (λ tried. IfSome tried (GroundReaches (A.width arith.old) inst.now budget log.old (ground_state self.old) log.new self.new)) }
+        ensures given_up { GivesUp (A.width arith.old) inst.now log.old self.old self.new }
+        ensures left { IfOk result (λ tried. tried ≡ None → (log.new ≡ log.old) × GroundStands (A.width arith.old) inst.now log.old self.new × HasCause (A.width arith.old) inst.now log.old self.old) }
+        ensures log_kept { OnErr result (log.new ≡ log.old) }
+        ensures stands { OnErr result (GroundStands (A.width arith.old) inst.now log.old self.new) }
+        ensures state { IfOk result (λ tried. tried ≡ None → ground_state self.new ≡ ground_state self.old) }
+        ensures width { A.width arith.new ≡ A.width arith.old }
+        ensures unfit { A.unfit_count arith.old ≤ A.unfit_count arith.new }
+    {
+        match self {
+            Ground::Plain(_) => Ok(None),
+            Ground::Factors(iterate) => match iterate.advance(
+                alloc, inst, budget, log, entering, arith,
+            ) {
+                Ok(reached) => Ok(Some(reached)),
+                Err(Refusal::Memory) => Err(Memory),
+                Err(Refusal::Unfit) => Ok(None),
+            },
+        }
+    }
+
+    /// Gives the factors up, where there are: the plain table is made anew along the log. After a refusal nothing has
+    /// changed.
+    pub fn give_up<R: Threads + Sync, A: Arith>(
+        &mut self,
+        rt: &R,
+        alloc: Global,
+        inst: &Instance,
+        log: &Log,
+        arith: &mut A,
+    ) -> Result<(), TableFault>
+        requires well_formed { IsWellFormed inst.now }
+        requires fits { StartFits (A.width arith.old) inst.now }
+        requires run { IsRunLog inst.now log.now }
+        requires stands { GroundStands (A.width arith.old) inst.now log.now self.old }
+        ensures plain { OnOk result (IsPlain self.new) }
+        ensures stands { OnOk result (GroundStands (A.width arith.old) inst.now log.now self.new) }
+        ensures state { OnOk result (ground_state self.new ≡ ground_state self.old) }
+        ensures fault { IfErr result (IsRunFault (A.width arith.old) inst.now log.now) }
+        ensures kept { OnErr result (self.new ≡ self.old) }
+        ensures width { A.width arith.new ≡ A.width arith.old }
+        ensures unfit { A.unfit_count arith.old ≤ A.unfit_count arith.new }
+    {
+        match self {
+            Ground::Plain(_) => Ok(()),
+            Ground::Factors(_) => {
+                let table = replay(rt, alloc, inst, log, arith)?;
+                *self = Ground::Plain(table);
+                Ok(())
+            }
+        }
+    }
+
+    /// Goes on over the plain table.
+    pub fn over_table<R: Threads + Sync, A: Arith>(
+        &mut self,
+        rt: &R,
+        inst: &Instance,
+        budget: u64,
+        log: &mut Log,
+        arith: &mut A,
+    ) -> Result<Reached, TableFault>
+        requires well_formed { IsWellFormed inst.now }
+        requires plain { IsPlain self.old }
+        requires stands { GroundStands (A.width arith.old) inst.now log.old self.old }
+        requires within { moves log.old ≤ budget }
+        ensures reached { IfOk result (GroundReaches (A.width arith.old) inst.now budget log.old (ground_state self.old) log.new self.new) }
+        ensures log_kept { OnErr result (log.new ≡ log.old) }
+        ensures kept { OnErr result (self.new ≡ self.old) }
+        ensures fault { IfErr result (IsRunFault (A.width arith.old) inst.now log.old) }
+        ensures width { A.width arith.new ≡ A.width arith.old }
+        ensures unfit { A.unfit_count arith.old ≤ A.unfit_count arith.new }
+    {
+        match self {
+            Ground::Plain(table) => advance_on(rt, inst, budget, log, table, arith),
+            Ground::Factors(_) => unreachable!(),
+        }
+    }
+
+    /// Goes on from the state by the column that enters; where none is eligible, to phase two or to the end. Where a
+    /// value that is worked with the factors does not fit, they are given up, and the plain table goes on.
+    ///
+    /// # Errors
+    ///
+    /// `Overflow` with the place of the first value of the run that does not fit the width, `Memory` for want of memory.
+    /// The log is as it was then, and it is stood on at the same state.
+    pub fn advance<R: Threads + Sync, A: Arith>(
+        &mut self,
+        rt: &R,
+        alloc: Global,
+        inst: &Instance,
+        budget: u64,
+        log: &mut Log,
+        entering: Option<u32>,
+        arith: &mut A,
+    ) -> Result<Reached, TableFault>
+        requires well_formed { IsWellFormed inst.now }
+        requires fits { StartFits (A.width arith.old) inst.now }
+        requires stands { GroundStands (A.width arith.old) inst.now log.old self.old }
+        requires chosen { IsChosen inst.now (ground_state self.old) entering }
+        requires within { moves log.old ≤ budget }
+        ensures reached { IfOk result (GroundReaches (A.width arith.old) inst.now budget log.old (ground_state self.old) log.new self.new) }
+        ensures given_up { GivesUp (A.width arith.old) inst.now log.old self.old self.new }
+        ensures log_kept { OnErr result (log.new ≡ log.old) }
+        ensures stands { OnErr result (GroundStands (A.width arith.old) inst.now log.old self.new) }
+        ensures fault { IfErr result (IsRunFault (A.width arith.old) inst.now log.old) }
+        ensures width { A.width arith.new ≡ A.width arith.old }
+        ensures unfit { A.unfit_count arith.old ≤ A.unfit_count arith.new }
+    {
+        if let Some(reached) = self.over_factors(alloc, inst, budget, log, entering, arith)? {
+            return Ok(reached);
+        }
+        self.give_up(rt, alloc, inst, log, arith)?;
+        self.over_table(rt, inst, budget, log, arith)
+    }
+
+    /// Whether the plain table is stood on.
+    pub fn is_plain(&self) -> bool
+        ensures { IsTrue result ↔ IsPlain self.now }
+    {
+        match self {
+            Ground::Plain(_) => true,
+            Ground::Factors(_) => false,
+        }
+    }
+
+    /// Takes in what follows from a choice that is exact for the state. None where it is unfit and met factors: they are
+    /// given up then, and a new choice is wanted. Over the plain table an unfit choice is settled by the reduced costs.
+    ///
+    /// # Errors
+    ///
+    /// `Overflow` with the place of the first value of the run that does not fit the width, `Memory` for want of memory.
+    /// The log is as it was then, and it is stood on at the same state.
+    pub fn record<R: Threads + Sync, A: Arith>(
+        &mut self,
+        rt: &R,
+        alloc: Global,
+        inst: &Instance,
+        budget: u64,
+        log: &mut Log,
+        choice: &Choice,
+        arith: &mut A,
+    ) -> Result<Option<Reached>, TableFault>
+        requires well_formed { IsWellFormed inst.now }
+        requires fits { StartFits (A.width arith.old) inst.now }
+        requires stands { GroundStands (A.width arith.old) inst.now log.old self.old }
+        requires exact { IsExactChoice (A.width arith.old) inst.now (ground_state self.old) choice.now }
+        requires within { moves log.old ≤ budget }
+        ensures reached { IfOk result (λ gone. IfSome gone (GroundReaches (A.width arith.old) inst.now budget log.old (ground_state self.old) log.new self.new)) }
+        ensures rescued { IfOk result (λ gone. gone ≡ None → (choice.now.unfit ≡ true) × (IsPlain self.old → ⊥) × IsPlain self.new × (log.new ≡ log.old)
+            × GroundStands (A.width arith.old) inst.now log.old self.new) }
+        ensures given_up { choice.now.unfit ≡ false → GivesUp (A.width arith.old) inst.now log.old self.old self.new }
+        ensures log_kept { OnErr result (log.new ≡ log.old) }
+        ensures stands { OnErr result (GroundStands (A.width arith.old) inst.now log.old self.new) }
+        ensures fault { IfErr result (IsRunFault (A.width arith.old) inst.now log.old) }
+        ensures width { A.width arith.new ≡ A.width arith.old }
+        ensures unfit { A.unfit_count arith.old ≤ A.unfit_count arith.new }
+    {
+        if choice.unfit {
+            if self.is_plain() {
+                let reached = self.over_table(rt, inst, budget, log, arith)?;
+                return Ok(Some(reached));
+            }
+            self.give_up(rt, alloc, inst, log, arith)?;
+            return Ok(None);
+        }
+        let reached = self.advance(rt, alloc, inst, budget, log, choice.stopper, arith)?;
+        Ok(Some(reached))
+    }
+}
