@@ -1,8 +1,9 @@
 #!/usr/bin/env python3
 """Makes a deck from a seed: decks.py KIND ROWS COLUMNS SEED
 
-KIND is `dense` (every entry from 1 to 9), `sparse` (four entries a column) or `chain` (a column a row): decks of less-than rows, with costs below 0,
-right sides from 1 up, and an entry above 0 in each column, so that the deck has an optimum. Or it is `transport`: from half as many sources as there are
+KIND is `dense` (every entry from 1 to 9), `sparse` (four entries a column), `chain` (a column a row) or `stair` (periods of ten rows; a column takes in one
+period and gives to the next): decks of less-than rows, with costs below 0, right sides from 1 up, and an entry above 0 in each column, so that the deck has
+an optimum. Or it is `transport`: from half as many sources as there are
 rows to as many sinks, which begins in phase one (the seed and the columns do not matter). Or it is `whole`: rows of all kinds, a cost and nine entries a
 column with decimals, two pairs a card, ranges and bounds of all kinds. Or it is `mixed`: rows of all kinds with ranges, bounds of all kinds, and two
 to five entries a column of small whole numbers, so that fractions stay short; it has a feasible point, and an optimum.
@@ -17,6 +18,11 @@ def column_entries(kind, rows, index, chance):
     if kind == "sparse":
         chosen = sorted(chance.sample(range(rows), min(4, rows)))
         return [(row, chance.randint(1, 9)) for row in chosen]
+    if kind == "stair":
+        first = index % max(1, rows // 10) * 10
+        taken = sorted(chance.sample(range(first, min(first + 10, rows)), 2))
+        given = [(first + 10 + chance.randrange(10), -1)] if first + 20 <= rows else []
+        return [(row, 1) for row in taken] + given
     return [(index % rows, 1)]
 
 

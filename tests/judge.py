@@ -8,7 +8,7 @@ import zlib
 
 from second_checker import Broken, Flaw, check, parse
 from second_reader import Fault, read
-from second_solver import Overflow, Spent, report_text, solve
+from second_solver import WITHOUT_TABLE, Overflow, Spent, report_text, solve
 
 HERE = os.path.dirname(os.path.dirname(os.path.abspath(__file__)))
 LP = os.path.join(HERE, "crates", "lp_main", "out", "lp_main")
@@ -79,7 +79,8 @@ def words_for(text):
 def wanted(text, by_solver=True, free=False):
     """What the program must answer: a kind, the status, the line on standard error, the bytes written (none: a report to be judged), and a solved deck.
 
-    A deck has one run, so the second solver's report is the program's byte for byte, and so is the place of the first value that does not fit.
+    A deck has one run, so the second solver's report is the program's byte for byte, and so is the place of the first value that does not fit; what else may
+    stand in place of that is told by `in_place_of_overflow`.
     """
     try:
         deck = read(text, free)
@@ -95,7 +96,24 @@ def wanted(text, by_solver=True, free=False):
         return f"overflow of {place.kind}", 6, str(place), b"", None
     except Spent as spent:
         return "budget", 7, f"lp: budget spent after {spent} moves", b"", None
-    return solved.outcome.lower(), 0, "", report_text(deck, solved, "--log" in words_for(text), 1 if "--report" in words_for(text) else 2), deck
+    return solved.outcome.lower(), 0, "", report_of(deck, solved, text), deck
+
+
+def report_of(deck, solved, text):
+    return report_text(deck, solved, "--log" in words_for(text), 1 if "--report" in words_for(text) else 2)
+
+
+def in_place_of_overflow(text, free):
+    """What the program may answer where a value of the plain table does not fit: a status, the line on standard error, the bytes written, and a solved deck.
+
+    It works over factors, which do not meet each value of the table. So where the others fit it may answer the end of the run. Where of those the first that does
+    not fit is a sum of the objective, it may answer that place.
+    """
+    deck = read(text, free)
+    try:
+        return 0, "", report_of(deck, solve(deck, kinds=WITHOUT_TABLE), text), deck
+    except Overflow as place:
+        return (6, str(place), b"", None) if place.kind == "total" else None
 
 
 def fault_of_report(deck, written):
@@ -122,6 +140,8 @@ def judge(text, by_solver=True, seconds=120, free=False):
     except subprocess.TimeoutExpired:
         return kind, f"it does not end within {seconds} seconds"
     said = done.stderr.decode(errors="replace").removesuffix("\n")
+    if status == 6 and (done.returncode, said) != (status, line):
+        status, line, bytes_written, deck = in_place_of_overflow(text, free) or (status, line, bytes_written, deck)
     if (done.returncode, said) != (status, line):
         return kind, f"status {done.returncode} and the line '{said[:200]}' in place of {status} and '{line}'"
     if deck is not None:

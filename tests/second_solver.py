@@ -16,6 +16,9 @@ from second_checker import fits, fraction_text, logical_ends
 from second_reader import Fault, read
 
 ZERO, ONE = Fraction(0), Fraction(1)
+# The kinds of values, and those that a solver by factors has too, which has no table and no row of reduced costs.
+KINDS = frozenset(("start", "entry", "value", "ratio", "cost", "total"))
+WITHOUT_TABLE = KINDS - {"entry", "cost"}
 
 
 class Overflow(Exception):
@@ -51,8 +54,8 @@ class Solved:
 class Run:
     """A table at a state of the run: for each position the row in terms of the basis and the basic value, for each column the reduced cost."""
 
-    def __init__(self, deck, width):
-        self.deck, self.width, self.number = deck, width, 0
+    def __init__(self, deck, width, kinds):
+        self.deck, self.width, self.kinds, self.number = deck, width, kinds, 0
         self.m, self.n = len(deck.rows), len(deck.columns)
         self.all = self.n + 2 * self.m
         self.log, self.phase = [], 2
@@ -67,7 +70,7 @@ class Run:
         return "LOWER" if lower is not None else "UPPER" if upper is not None else "ZERO"
 
     def put(self, value, kind, row, column):
-        if not fits(value, self.width):
+        if kind in self.kinds and not fits(value, self.width):
             raise Overflow(self.number, kind, row, column)
         return value
 
@@ -235,9 +238,9 @@ class Run:
         return ray
 
 
-def solve(deck, width=127, budget=1_000_000):
-    """The end of the deck's one run; a value that does not fit, or a spent budget, is raised."""
-    run, moves = Run(deck, width), 0
+def solve(deck, width=127, budget=1_000_000, kinds=KINDS):
+    """The end of the deck's one run; a value of these kinds that does not fit, or a spent budget, is raised."""
+    run, moves = Run(deck, width, kinds), 0
     while True:
         q = run.entering()
         if q is not None:

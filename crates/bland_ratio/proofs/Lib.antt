@@ -4,3 +4,4 @@ pub mod Ratios
 pub mod Priced
 pub mod Stopping
 pub mod Exact
+pub mod Counting

@@ -1,5 +1,5 @@
 -- The reduced cost of a column as it is worked, against its definition.
-use Rattle.std.proofs.Common.{◌≡◌, ◌≢◌, ℕ, ◌+◌, ◌<◌, ◌≤◌, ◌⊎◌, inl, inr, Bool, true, false, List, [], ◌∷◌, length, Some, None, Option, Result, Ok, Err, cond, eqb, eq-eqb, ne_eqb, refl, sym, ◌∙◌, ap, ap₂, subst, arith}
+use Rattle.std.proofs.Common.{◌≡◌, ◌≢◌, ℕ, ◌+◌, ◌<◌, ◌≤◌, ◌⊎◌, inl, inr, Bool, true, false, List, [], ◌∷◌, Some, None, Option, Result, Ok, Err, cond, eqb, eq-eqb, ne_eqb, refl, sym, ◌∙◌, ap, ap₂, subst, arith}
 use Rattle.std.proofs.lemmas.Int.{ints}
 use Rattle.lp_run.specs.declared.ColumnKind.{ColumnKind}
 use Rattle.lp_run.specs.declared.ColumnKind.TheVariants as column
@@ -16,7 +16,7 @@ use Rattle.rational.proofs.OrderLaws.{eq_ℚ-decides}
 use Rattle.rational.proofs.RationalRing.{ring_ℚ}
 use Rattle.rational.proofs.Ring.{◌≐◌, ◌⊕◌, ◌⊖◌, ◌⊗◌, 𝟘}
 use Rattle.rational.proofs.Settling.{less-none, less-some, less_unless-in, settle-bind, settle-bind_none, settle-done}
-use Rattle.rational.proofs.SparseLaws.{at_index-other, length-le-sparse}
+use Rattle.rational.proofs.SparseLaws.{at_index-other}
 use Rattle.rational.proofs.SumLaws.{at_or_other, sum-change, sum-cong, sum-none}
 use Rattle.sparse_cols.specs.Sparse.{IsRising}
 use Rattle.lp_run.specs.Instance.{Instance, IsWellFormed, column_count, column_kind, cost, kind_coefficient, passed_side, row_count, sign_past, structural, structural_count}
@@ -60,10 +60,6 @@ kind_within inst j kind below same =
     (λ i b. subst (KindWithin inst) (sym (kind_of_logical inst i b)) b)
     (λ i b. subst (KindWithin inst) (sym (kind_of_artificial inst i)) b)
     j below)
-
--- a structural has no more entries than there are rows
-pub few_entries : (inst : Instance) → IsWellFormed inst → (k : ℕ) (pairs : List (ℕ × ℚ)) → k < structural_count inst → pairs ≡ (structural inst k).entries → length pairs ≤ row_count inst
-few_entries inst h k pairs below same = subst (λ pairs. length pairs ≤ row_count inst) (sym same) (length-le-sparse (row_count inst) (structural inst k).entries (h.sparse k below))
 
 turned : (i k : ℕ) (v : ℚ) → at_index i k v ≡ at_index k i v
 turned i k v = at_or_other (λ i. at_index i k v ≡ at_index k i v) k i refl (λ other. at_index-other i k v other ∙ sym (at_index-other k i v (λ e. other (sym e))))

@@ -1,5 +1,5 @@
 -- Which columns are stoppers, one after another.
-use Rattle.std.proofs.Common.{◌≡◌, ℕ, suc, ◌+◌, ◌-◌, ◌*◌, ◌<◌, ◌≤◌, ◌⊎◌, ◌↔◌, inl, inr, Bool, Some, IsTrue, T, sym, ◌∙◌, ap₂, subst, arith}
+use Rattle.std.proofs.Common.{◌≡◌, ℕ, ◌+◌, ◌<◌, ◌≤◌, ◌⊎◌, ◌↔◌, inl, inr, Bool, Some, IsTrue, T, sym, ◌∙◌, ap₂, subst, arith}
 use Rattle.std.proofs.lemmas.Bool.{cases_lt}
 use Rattle.std.specs.Ordering.{is_lt}
 use Rattle.lp_model.specs.declared.Status.{Status}
@@ -37,13 +37,3 @@ none_more w u inst ticket from j width none here k above below unfit h = by (cas
     by (inr more) =
         let same : k ≡ j = omega arith in
         here unfit (subst (λ w. Stops w inst ticket j unfit) (sym width) (subst (λ k. Stops w inst ticket k unfit) same h))
-
-work_of : (a r m : ℕ) → a * m + m ≤ (suc a + r) * m
-work_of a r m = omega arith
-
-work_more : (a b m : ℕ) → a < b → a * m + m ≤ b * m
-work_more a b m h = let same : suc a + (b - suc a) ≡ b = omega arith in subst (λ b. a * m + m ≤ b * m) same (work_of a (b - suc a) m)
-
--- the work of one more column
-pub work_next : (old now new a b m : ℕ) → now ≤ old + a * m → new ≤ now + m → a < b → new ≤ old + b * m
-work_next old now new a b m before step h = let more : a * m + m ≤ b * m = work_more a b m h in omega arith

@@ -2,13 +2,13 @@
 use Rattle.std.proofs.Common.{◌≡◌, ◌≢◌, ℕ, Option, Some, None, Result, Bool, true, false, List, refl, sym, ◌∙◌, ap, ap₂, subst, arith}
 use Rattle.std.proofs.lemmas.Int.{ints}
 use Rattle.std.specs.Cmp.{tied_itself}
-use Rattle.std.specs.declared.cmp.Ordering.TheVariants.{Less, Equal, Greater}
+use Rattle.std.specs.declared.cmp.Ordering.TheVariants.{Equal}
 use Rattle.lp_model.specs.declared.Side.{Side}
 use Rattle.lp_model.specs.Deck.{Interval}
-use Rattle.rational.specs.Rational.{ℚ, zero_ℚ, ◌-ℚ◌, ◌*ℚ◌, ◌/ℚ◌, neg_ℚ, abs_ℚ, cmp_ℚ, ◌<ℚ◌}
+use Rattle.rational.specs.Rational.{ℚ, zero_ℚ, ◌-ℚ◌, ◌*ℚ◌, ◌/ℚ◌, neg_ℚ, abs_ℚ, cmp_ℚ}
 use Rattle.rational.specs.Width.{FitsWidth}
 use Rattle.rational.specs.Worked.{bind, done, settle, work}
-use Rattle.rational.proofs.OrderLaws.{abs_ℚ-above, abs_ℚ-below, cmp_less, cmp_equal, cmp_greater, cmp_ℚ_total, by_cmp}
+use Rattle.rational.proofs.OrderLaws.{abs_ℚ-above, abs_ℚ-below, cmp_ℚ_total, by_cmp}
 use Rattle.rational.proofs.Linear.{linear, ◌≐◌, ◌⟹◌}
 use Rattle.rational.proofs.RationalRing.{ring_ℚ}
 use Rattle.rational.proofs.Ring.{◌≐◌, ⊝◌, ◌⊗◌, 𝟘, 𝟙}

@@ -1,3 +1,4 @@
 pub mod Leave
 pub mod Pricing
+pub mod Entries
 pub mod Inner

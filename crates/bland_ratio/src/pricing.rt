@@ -5,6 +5,7 @@ ghost use Rattle.exact_frac.specs.Count.{unfit_after};
 ghost use Rattle.exact_frac.specs.Settles.{Settles};
 ghost use Rattle.lp_run.specs.Instance.{column_count, row_count};
 ghost use Rattle.lp_run.specs.Step.{Improves};
+ghost use Rattle.bland_ratio.specs.Entries.{column_entries, entries_from, stored_entries};
 ghost use Rattle.bland_ratio.specs.Pricing.{HasCost, HasUnfitCost, IsChoiceOf, IsEligibleAt, IsFirstStopper, IsLookedAt, IsTicketOf, Stops, is_unfit, priced, unfit_where};
 
 use crate::tickets::{Choice, Pay, Ticket};
@@ -34,7 +35,7 @@ pub fn eligible(inst: &Instance, ticket: &Ticket, j: usize, d: Frac) -> bool
 /// With `Prices` the reduced cost starts at the column's cost, and the product of each entry with the price of its row
 /// is taken away by rising rows; products of a zero factor are skipped. With `Costs` it is the ticket's own, nothing
 /// is worked and no column is unfit. The count of unfit results rises by one exactly at an unfit stopper, and at most
-/// m products are worked for each column. No memory is taken.
+/// one product is worked for each stored entry of these columns. No memory is taken.
 pub fn first_stopper<A: Arith>(
     inst: &Instance,
     ticket: &Ticket,
@@ -48,7 +49,7 @@ pub fn first_stopper<A: Arith>(
     ensures first { IsFirstStopper (A.width arith.old) inst.now ticket.now from to result }
     ensures width { A.width arith.new ≡ A.width arith.old }
     ensures unfit { A.unfit_count arith.new ≡ unfit_where (A.unfit_count arith.old) (is_unfit result) }
-    ensures work { A.work_count arith.new ≤ A.work_count arith.old + (to - from) * row_count inst.now }
+    ensures work { A.work_count arith.new ≤ A.work_count arith.old + entries_from inst.now from (to - from) }
 {
     for j in from..to {
         if let Some(unfit) = stop(inst, ticket, j, arith) {
@@ -59,13 +60,14 @@ pub fn first_stopper<A: Arith>(
 }
 
 /// The choice of a ticket, on one thread: the least stopper of all N columns. The count of unfit results rises by one
-/// exactly where the choice is unfit. No memory is taken.
+/// exactly where the choice is unfit. At most one product is worked for each stored entry of the structurals, and one for
+/// each logical and each artificial. No memory is taken.
 pub fn choose<A: Arith>(inst: &Instance, ticket: &Ticket, arith: &mut A) -> Choice
     requires { IsTicketOf inst.now ticket.now }
     ensures choice { IsChoiceOf (A.width arith.old) inst.now ticket.now result }
     ensures width { A.width arith.new ≡ A.width arith.old }
     ensures unfit { A.unfit_count arith.new ≡ unfit_where (A.unfit_count arith.old) result.unfit }
-    ensures work { A.work_count arith.new ≤ A.work_count arith.old + column_count inst.now * row_count inst.now }
+    ensures work { A.work_count arith.new ≤ A.work_count arith.old + (stored_entries inst.now + 2 * row_count inst.now) }
 {
     match first_stopper(inst, ticket, 0, inst.columns(), arith) {
         Some(stopper) => Choice {
@@ -98,7 +100,7 @@ fn stop<A: Arith>(inst: &Instance, ticket: &Ticket, j: usize, arith: &mut A) -> 
     ensures stops { MatchOption result ((unfit : Bool) → Stops (A.width arith.old) inst.now ticket.now j unfit → ⊥) (Stops (A.width arith.old) inst.now ticket.now j) }
     ensures width { A.width arith.new ≡ A.width arith.old }
     ensures unfit { A.unfit_count arith.new ≡ unfit_where (A.unfit_count arith.old) (unwrap_or result false) }
-    ensures work { A.work_count arith.new ≤ A.work_count arith.old + row_count inst.now }
+    ensures work { A.work_count arith.new ≤ A.work_count arith.old + column_entries inst.now j }
 {
     if !is_looked_at(inst, ticket, j) {
         return None;
@@ -160,7 +162,7 @@ fn cost_of<A: Arith>(
     ensures cost { MatchResult result (HasCost (A.width arith.old) inst.now ticket.now.phase ticket.now.pay j) (λ _. HasUnfitCost (A.width arith.old) inst.now ticket.now.phase ticket.now.pay j) }
     ensures width { A.width arith.new ≡ A.width arith.old }
     ensures unfit { A.unfit_count arith.new ≡ unfit_after (A.unfit_count arith.old) result }
-    ensures work { A.work_count arith.new ≤ A.work_count arith.old + row_count inst.now }
+    ensures work { A.work_count arith.new ≤ A.work_count arith.old + column_entries inst.now j }
 {
     match &ticket.pay {
         Pay::Prices(prices) => price(inst, ticket.phase, prices.as_slice(), j, arith),
@@ -170,7 +172,7 @@ fn cost_of<A: Arith>(
 
 /// The reduced cost of a column at the prices of the rows: its cost less the product of each entry with the price of its
 /// row, by rising rows; products of a zero factor are skipped. `Unfit` comes exactly where a product or a difference
-/// does not fit the width. At most m products are worked, and no memory is taken.
+/// does not fit the width. At most one product is worked for each stored entry, and no memory is taken.
 #[tactic(auto, using(exact_frac::specs::Constants::constants))]
 pub fn price<A: Arith>(
     inst: &Instance,
@@ -184,7 +186,7 @@ pub fn price<A: Arith>(
     ensures settled { Settles (A.width arith.old) (priced inst.now phase prices.now j) result }
     ensures width { A.width arith.new ≡ A.width arith.old }
     ensures unfit { A.unfit_count arith.new ≡ unfit_after (A.unfit_count arith.old) result }
-    ensures work { A.work_count arith.new ≤ A.work_count arith.old + row_count inst.now }
+    ensures work { A.work_count arith.new ≤ A.work_count arith.old + column_entries inst.now j }
 {
     let rows = inst.rows();
     let cost = inst.cost(phase, j);

@@ -1,5 +1,4 @@
-pub mod Closings
 pub mod Complete
-pub mod Runs
-pub mod Shown
-pub mod Totals
+pub mod Rounds
+pub mod Calms
+pub mod Costs

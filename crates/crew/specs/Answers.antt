@@ -6,7 +6,7 @@ use Rattle.lp_run.specs.Ends.{HasOutcome}
 use Rattle.lp_run.specs.Instance.{Instance}
 use Rattle.lp_run.specs.Listing.{Overflows}
 use Rattle.lp_run.specs.Run.{IsSpent}
-use Rattle.crew.specs.declared.closing.Closed.{Closed}
+use Rattle.two_phase.specs.declared.board.Closed.{Closed}
 use Rattle.crew.specs.declared.faults.CrewFault.{CrewFault}
 use Rattle.crew.specs.declared.faults.CrewFault.TheVariants as fault
 

@@ -1,2 +1,4 @@
 -- inner: what the parts of a solve answer.
-pub mod Parts
+pub mod Faults
+pub mod Rounds
+pub mod Works

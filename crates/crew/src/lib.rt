@@ -6,18 +6,17 @@
 //! **Contract.** [`solve_alone`] answers the outcome of the instance's one run, with the log and its moves, within the budget
 //! (`HasClosed`); or a fault with its cause (`IsCause`): the place of the first value that the run lists and that does not fit
 //! the width of the arithmetic, a run with more moves than the budget, or want of memory. It waits for nobody, and ends by
-//! Bland's theorem.
+//! Bland's theorem. On a calm instance (`IsCalm` of `factor_run`), where each value fits that is worked over factors, the count
+//! of unfit results stays, only a spent budget or want of memory refuses, and at most `solve_work` products and quotients
+//! are worked.
 //!
-//! It stands on `plain_table` for the table and its steps, on `bland_laws` for the end of runs, and on `instance_model`,
-//! `deck_model` and `exact_frac`.
+//! It stands on `two_phase` for the board, whose rounds it makes, on `bland_ratio` for choices, on `bland_laws` for the end of
+//! runs, and on `instance_model` and `exact_frac`.
 #![tactic(auto)]
 
-mod closing;
 mod faults;
-mod objective;
-mod points;
 mod solving;
 
-pub use closing::Closed;
 pub use faults::CrewFault;
 pub use solving::solve_alone;
+pub use two_phase::Closed;

@@ -1,24 +1,38 @@
 //! The run of an instance.
-ghost use Rattle.std.specs.Prelude.{◌≡◌, ◌+◌, ◌≤◌, [], ◌∷◌, ◌++◌, false, true, IfErr, IfOk, IsTrue, OnOk};
-ghost use Rattle.lp_model.specs.Log.{is_move, moves};
+ghost use Rattle.std.specs.Prelude.{◌≡◌, ◌≢◌, ℕ, ◌+◌, ◌≤◌, false, length, IfErr, IfOk, OnOk};
 ghost use Rattle.lp_run.specs.Listing.{StartFits};
-ghost use Rattle.lp_run.specs.Step.{IsNext};
-ghost use Rattle.plain_table.specs.Next.{EndsBy};
+ghost use Rattle.bland_ratio.specs.Pricing.{IsExactTicket};
+ghost use Rattle.two_phase.specs.Board.{BoardStands, HasEnded, HasGivenUp, HasNoCause, IsChoiceFor, IsSameRun, IsUnmoved, Records, standing_on, state_of};
+ghost use Rattle.two_phase.specs.declared.standing.Standing.{Standing};
+ghost use Rattle.lp_model.specs.Log.{moves};
+ghost use Rattle.lp_run.specs.Instance.{row_count};
+ghost use Rattle.bland_ratio.specs.Entries.{stored_entries};
+ghost use Rattle.factor_run.specs.Bound.{making_work, solve_work};
+ghost use Rattle.factor_run.specs.Calm.{IsCalm};
+ghost use Rattle.run_outcome.specs.Endings.{cost_count};
+ghost use Rattle.two_phase.specs.Inner.Grounds.{IsPlain};
+ghost use Rattle.two_phase.specs.Inner.Works.{ground_owed, move_work, recorded_work};
+ghost use Rattle.two_phase.specs.Tally.{HasRoundWorked, HasWorked, IsFresh};
 ghost use Rattle.crew.specs.Answers.{IsCause, Solves};
-ghost use Rattle.crew.specs.Inner.Parts.{IsUnderWay};
+ghost use Rattle.crew.specs.Inner.Works.{IsCalmFault};
+ghost use Rattle.crew.specs.Inner.Faults.{IsFaultFor, IsHandedOn};
+ghost use Rattle.crew.specs.Inner.Rounds.{GoesOn};
+ghost use Rattle.crew.specs.declared.faults.CrewFault.{CrewFault};
 
-use crate::closing::{Closed, outcome};
 use crate::faults::CrewFault;
-use deck_model::Log;
+use bland_ratio::{Choice, Ticket, choose};
 use exact_frac::Arith;
 use instance_model::Instance;
-use lp_model::Entry;
-use plain_table::{End, Next, Table, TableFault};
 use std::alloc::Global;
+use std::sync::Arc;
 use std::thread::Threads;
+use two_phase::{Board, BoardFault, CloseFault, Closed, NewFault, Recorded, Standing};
 
-/// The outcome of an instance, by its one Bland run of at most so many moves, on a plain table, whose rows are worked in
-/// several threads where it is large.
+/// The outcome of an instance, by its one Bland run of at most so many moves, over factors of its bases; where a value that
+/// is worked with them does not fit the width, on a plain table, whose rows are worked in several threads where it is large.
+/// The counts of all arithmetic used come into `arith`. On a calm instance, of m rows and so many entries (the stored entries of
+/// the structurals and their costs that are not 0), no result is unfit, and a run of so many moves takes at most
+/// (moves + 4)·(4m² + 256m + entries) + (moves/64 + 1)·m³ products and quotients.
 ///
 /// # Errors
 ///
@@ -27,117 +41,217 @@ use std::thread::Threads;
 pub fn solve_alone<R: Threads + Sync, A: Arith>(
     rt: &R,
     alloc: Global,
-    inst: &Instance,
+    inst: Arc<Instance>,
     budget: u64,
     arith: &mut A,
 ) -> Result<Closed, CrewFault>
-    requires { StartFits (A.width arith.old) inst.now }
-    ensures solves { Solves (A.width arith.old) inst.now budget result }
+    requires { StartFits (A.width arith.old) inst.value }
+    ensures solves { Solves (A.width arith.old) inst.value budget result }
     ensures width { A.width arith.new ≡ A.width arith.old }
     ensures unfit { A.unfit_count arith.old ≤ A.unfit_count arith.new }
+    ensures calm { IsCalm (A.width arith.old) inst.value → (A.unfit_count arith.new ≡ A.unfit_count arith.old) × IfErr result IsCalmFault }
+    ensures work { IsCalm (A.width arith.old) inst.value → IfOk result (λ closed. A.work_count arith.new ≤ A.work_count arith.old + solve_work inst.value closed.moves) }
 {
-    let mut table = start(alloc, inst, budget, arith)?;
-    let mut log = Log::new(alloc);
-    let end = run(rt, inst, budget, &mut table, &mut log, arith)?;
-    let outcome = outcome(alloc, inst, &table, end, arith)?;
-    let moves = log.moves();
-    Ok(Closed {
-        outcome,
-        log,
-        moves,
-    })
-}
-
-// The table of the start.
-fn start<A: Arith>(
-    alloc: Global,
-    inst: &Instance,
-    budget: u64,
-    arith: &mut A,
-) -> Result<Table, CrewFault>
-    requires { StartFits (A.width arith.old) inst.now }
-    ensures under_way { IfOk result (IsUnderWay (A.width arith.old) inst.now budget []) }
-    ensures fault { IfErr result (IsCause (A.width arith.old) inst.now budget) }
-    ensures width { A.width arith.new ≡ A.width arith.old }
-    ensures unfit { A.unfit_count arith.old ≤ A.unfit_count arith.new }
-{
-    let _rows = inst.rows();
-    match Table::start(alloc, inst, arith) {
-        Ok(table) => Ok(table),
-        Err(TableFault::Memory) => Err(CrewFault::Memory),
-        Err(TableFault::Overflow(place)) => Err(CrewFault::Overflow(place)),
-    }
-}
-
-// Goes on to the end of the run.
-fn run<R: Threads + Sync, A: Arith>(
-    rt: &R,
-    inst: &Instance,
-    budget: u64,
-    table: &mut Table,
-    log: &mut Log,
-    arith: &mut A,
-) -> Result<End, CrewFault>
-    requires { IsUnderWay (A.width arith.old) inst.now budget log.old table.old }
-    ensures end { IfOk result (EndsBy inst.now table.new) }
-    ensures under_way { OnOk result (IsUnderWay (A.width arith.old) inst.now budget log.new table.new) }
-    ensures fault { IfErr result (IsCause (A.width arith.old) inst.now budget) }
-    ensures width { A.width arith.new ≡ A.width arith.old }
-    ensures unfit { A.unfit_count arith.old ≤ A.unfit_count arith.new }
-{
-    'entries: loop {
-        match table.next(inst, arith) {
-            Ok(Next::Entry(entry)) => advance(rt, inst, budget, entry, table, log, arith)?,
-            Ok(Next::End(end)) => return Ok(end),
-            Err(place) => return Err(CrewFault::Overflow(place)),
+    match Board::new(alloc, inst, budget, arith.fresh()) {
+        Ok(board) => go_on(rt, alloc, budget, board, arith),
+        Err(NewFault { arith: used, fault }) => {
+            arith.absorb(used);
+            Err(fault_of(fault))
         }
     }
 }
 
-// Whether an entry counts for the budget.
-fn is_move(entry: Entry) -> bool
-    ensures { result ≡ is_move entry }
-{
-    match entry {
-        Entry::Flip(_) | Entry::Swap(_, _, _) => true,
-        Entry::Turn => false,
-    }
-}
-
-// Whether the budget has no move left for an entry that is one.
-fn is_spent(budget: u64, log: &Log, entry: Entry) -> bool
-    ensures spent { IsTrue result → (is_move entry ≡ true) × (moves log.now ≡ budget) }
-    ensures left { result ≡ false → moves log.now ≤ budget → moves log.now + moves (entry ∷ []) ≤ budget }
-{
-    is_move(entry) && log.moves() == budget
-}
-
-// Takes in the next entry.
-fn advance<R: Threads + Sync, A: Arith>(
+// Goes on with a board to the end of its run, and closes it. Its arithmetic is absorbed.
+fn go_on<R: Threads + Sync, A: Arith>(
     rt: &R,
-    inst: &Instance,
+    alloc: Global,
     budget: u64,
-    entry: Entry,
-    table: &mut Table,
-    log: &mut Log,
+    board: Board<A>,
     arith: &mut A,
-) -> Result<(), CrewFault>
-    requires under_way { IsUnderWay (A.width arith.old) inst.now budget log.old table.old }
-    requires next { IsNext inst.now table.old.state entry }
-    ensures log { OnOk result (log.new ≡ log.old ++ entry ∷ []) }
-    ensures under_way { OnOk result (IsUnderWay (A.width arith.old) inst.now budget log.new table.new) }
-    ensures fault { IfErr result (IsCause (A.width arith.old) inst.now budget) }
+) -> Result<Closed, CrewFault>
+    requires stands { BoardStands (A.width board.arith) board }
+    requires running { standing_on board ≡ Standing.Running }
+    requires budget { board.budget ≡ budget }
+    requires width { A.width board.arith ≡ A.width arith.old }
+    ensures solves { Solves (A.width arith.old) board.inst.value board.budget result }
     ensures width { A.width arith.new ≡ A.width arith.old }
     ensures unfit { A.unfit_count arith.old ≤ A.unfit_count arith.new }
+    ensures calm { IsCalm (A.width arith.old) board.inst.value → IsFresh board → A.unfit_count board.arith ≡ 0 → (A.unfit_count arith.new ≡ A.unfit_count arith.old) × IfErr result IsCalmFault }
+    ensures work { IsCalm (A.width arith.old) board.inst.value → IsFresh board → A.work_count board.arith ≤ stored_entries board.inst.value + making_work board.inst.value
+        → IfOk result (λ closed. A.work_count arith.new ≤ A.work_count arith.old + solve_work board.inst.value closed.moves) }
 {
-    if is_spent(budget, log, entry) {
-        return Err(CrewFault::Budget(budget));
+    let mut board = board;
+    match run(rt, alloc, budget, &mut board, arith) {
+        Ok(()) => close(alloc, board, arith),
+        Err(fault) => {
+            arith.absorb(board.into_arith());
+            Err(fault)
+        }
     }
-    log.push(entry)?;
-    let entries = log.len();
-    prove!(table.number() < entries as u64);
-    match table.step(rt, inst, entry, arith) {
-        Ok(()) => Ok(()),
-        Err(place) => Err(CrewFault::Overflow(place)),
+}
+
+// Closes a board whose run has ended. Its arithmetic is absorbed.
+fn close<A: Arith>(alloc: Global, board: Board<A>, arith: &mut A) -> Result<Closed, CrewFault>
+    requires stands { BoardStands (A.width board.arith) board }
+    requires ended { HasEnded board }
+    requires width { A.width board.arith ≡ A.width arith.old }
+    ensures solves { Solves (A.width arith.old) board.inst.value board.budget result }
+    ensures width { A.width arith.new ≡ A.width arith.old }
+    ensures unfit { A.unfit_count arith.old ≤ A.unfit_count arith.new }
+    ensures calm { IsCalm (A.width arith.old) board.inst.value → A.unfit_count board.arith ≡ 0 → (A.unfit_count arith.new ≡ A.unfit_count arith.old) × IfErr result IsCalmFault }
+    ensures work { IfOk result (λ closed. (closed.moves ≡ moves board.log) × (A.work_count arith.new ≤ A.work_count arith.old + (A.work_count board.arith + cost_count board.inst.value))) }
+{
+    match board.close(alloc) {
+        Ok((closed, used)) => {
+            arith.absorb(used);
+            Ok(closed)
+        }
+        Err(CloseFault { board, fault }) => {
+            arith.absorb(board.into_arith());
+            Err(fault_of(fault))
+        }
+    }
+}
+
+// Goes on by rounds to the end of the run: a ticket of the board's state, its choice, and what follows from that.
+fn run<R: Threads + Sync, A: Arith>(
+    rt: &R,
+    alloc: Global,
+    budget: u64,
+    board: &mut Board<A>,
+    arith: &mut A,
+) -> Result<(), CrewFault>
+    requires stands { BoardStands (A.width board.old.arith) board.old }
+    requires running { standing_on board.old ≡ Standing.Running }
+    requires budget { board.old.budget ≡ budget }
+    requires width { A.width board.old.arith ≡ A.width arith.old }
+    ensures ended { OnOk result (HasEnded board.new) }
+    ensures stands { OnOk result (BoardStands (A.width board.old.arith) board.new) }
+    ensures instance { board.new.inst ≡ board.old.inst }
+    ensures budget { board.new.budget ≡ board.old.budget }
+    ensures board_width { A.width board.new.arith ≡ A.width board.old.arith }
+    ensures fault { IfErr result (IsCause (A.width board.old.arith) board.old.inst.value budget) }
+    ensures width { A.width arith.new ≡ A.width arith.old }
+    ensures unfit { A.unfit_count arith.old ≤ A.unfit_count arith.new }
+    ensures calm { IsCalm (A.width board.old.arith) board.old.inst.value → IsFresh board.old
+        → (A.unfit_count board.new.arith ≡ A.unfit_count board.old.arith) × (A.unfit_count arith.new ≡ A.unfit_count arith.old) × IfErr result IsCalmFault }
+    ensures work { IsCalm (A.width board.old.arith) board.old.inst.value → IsFresh board.old
+        → OnOk result (HasWorked board.old.inst.value board.new.log (length board.new.log + 1) board.new.updates
+        (A.work_count board.old.arith + A.work_count arith.old) (A.work_count board.new.arith + A.work_count arith.new)) }
+{
+    'rounds: loop {
+        match round(rt, alloc, board, arith)? {
+            Recorded::Entry(_) => {}
+            Recorded::Rescued => {}
+            Recorded::Ended(standing) => return end_of(standing, budget),
+        }
+    }
+}
+
+// A round at the board's state.
+fn round<R: Threads + Sync, A: Arith>(
+    rt: &R,
+    alloc: Global,
+    board: &mut Board<A>,
+    arith: &mut A,
+) -> Result<Recorded, CrewFault>
+    requires stands { BoardStands (A.width board.old.arith) board.old }
+    requires running { standing_on board.old ≡ Standing.Running }
+    requires width { A.width board.old.arith ≡ A.width arith.old }
+    ensures stands { BoardStands (A.width board.old.arith) board.new }
+    ensures instance { board.new.inst ≡ board.old.inst }
+    ensures budget { board.new.budget ≡ board.old.budget }
+    ensures board_width { A.width board.new.arith ≡ A.width board.old.arith }
+    ensures goes { IfOk result (GoesOn board.old board.new) }
+    ensures fault { IfErr result (IsCause (A.width board.old.arith) board.old.inst.value board.old.budget) }
+    ensures width { A.width arith.new ≡ A.width arith.old }
+    ensures unfit { A.unfit_count arith.old ≤ A.unfit_count arith.new }
+    ensures calm { IsCalm (A.width board.old.arith) board.old.inst.value → (IsPlain board.old.ground → ⊥)
+        → (A.unfit_count board.new.arith ≡ A.unfit_count board.old.arith) × (A.unfit_count arith.new ≡ A.unfit_count arith.old) × IfErr result IsCalmFault }
+    ensures work { (before : ℕ) → IsCalm (A.width board.old.arith) board.old.inst.value → (IsPlain board.old.ground → ⊥)
+        → HasWorked board.old.inst.value board.old.log (length board.old.log) board.old.updates before (A.work_count board.old.arith + A.work_count arith.old)
+        → IfOk result (HasRoundWorked board.old.inst.value board.new before (A.work_count board.new.arith + A.work_count arith.new)) }
+{
+    let ticket = ask(rt, alloc, board)?;
+    let choice = choose(board.instance(), &ticket, arith);
+    take(rt, alloc, board, choice)
+}
+
+// The ticket of the board's state.
+fn ask<R: Threads + Sync, A: Arith>(
+    rt: &R,
+    alloc: Global,
+    board: &mut Board<A>,
+) -> Result<Ticket, CrewFault>
+    requires stands { BoardStands (A.width board.old.arith) board.old }
+    requires running { standing_on board.old ≡ Standing.Running }
+    ensures stands { BoardStands (A.width board.old.arith) board.new }
+    ensures same { IsSameRun board.old board.new }
+    ensures unmoved { IsUnmoved board.old board.new }
+    ensures exact { IfOk result (IsExactTicket board.old.inst.value (state_of board.old)) }
+    ensures number { IfOk result (λ ticket. ticket.number ≡ length board.old.log) }
+    ensures fault { IfErr result (IsCause (A.width board.old.arith) board.old.inst.value board.old.budget) }
+    ensures board_width { A.width board.new.arith ≡ A.width board.old.arith }
+    ensures given_up { HasGivenUp (A.width board.old.arith) board.old board.new }
+    ensures calm { HasNoCause (A.width board.old.arith) board.old → (A.unfit_count board.new.arith ≡ A.unfit_count board.old.arith) × IfErr result IsCalmFault }
+    ensures owed { HasNoCause (A.width board.old.arith) board.old
+        → IfOk result (λ _. A.work_count board.new.arith ≤ A.work_count board.old.arith + ground_owed (row_count board.old.inst.value) board.old.ground) }
+    ensures unowed { HasNoCause (A.width board.old.arith) board.old → IfOk result (λ _. ground_owed (row_count board.old.inst.value) board.new.ground ≡ 0) }
+{
+    match board.ticket(rt, alloc) {
+        Ok(ticket) => Ok(ticket),
+        Err(fault) => Err(fault_of(fault)),
+    }
+}
+
+// Takes in a choice of the board's own number.
+fn take<R: Threads + Sync, A: Arith>(
+    rt: &R,
+    alloc: Global,
+    board: &mut Board<A>,
+    choice: Choice,
+) -> Result<Recorded, CrewFault>
+    requires stands { BoardStands (A.width board.old.arith) board.old }
+    requires running { standing_on board.old ≡ Standing.Running }
+    requires exact { IsChoiceFor (A.width board.old.arith) board.old choice }
+    requires number { choice.number ≡ length board.old.log }
+    ensures stands { BoardStands (A.width board.old.arith) board.new }
+    ensures same { IsSameRun board.old board.new }
+    ensures recorded { IfOk result (Records board.old board.new choice) }
+    ensures fault { IfErr result (IsCause (A.width board.old.arith) board.old.inst.value board.old.budget) }
+    ensures board_width { A.width board.new.arith ≡ A.width board.old.arith }
+    ensures given_up { choice.unfit ≡ false → HasGivenUp (A.width board.old.arith) board.old board.new }
+    ensures calm { choice.unfit ≡ false → HasNoCause (A.width board.old.arith) board.old → (A.unfit_count board.new.arith ≡ A.unfit_count board.old.arith) × IfErr result IsCalmFault }
+    ensures spent { choice.unfit ≡ false → HasNoCause (A.width board.old.arith) board.old → IfOk result (λ recorded. A.work_count board.new.arith ≤ A.work_count board.old.arith
+        + (ground_owed (row_count board.old.inst.value) board.old.ground + (move_work (row_count board.old.inst.value) + recorded_work (row_count board.old.inst.value) board.old.updates recorded))) }
+{
+    match board.record(rt, alloc, choice) {
+        Ok(recorded) => Ok(recorded),
+        Err(fault) => Err(fault_of(fault)),
+    }
+}
+
+// What the standing at the end of a run comes to.
+fn end_of(standing: Standing, budget: u64) -> Result<(), CrewFault>
+    requires { standing ≢ Standing.Running }
+    ensures within { OnOk result (standing ≢ Standing.Spent) }
+    ensures spent { IfErr result (λ fault. (fault ≡ CrewFault.Budget budget) × (standing ≡ Standing.Spent)) }
+{
+    match standing {
+        Standing::Optimal | Standing::Infeasible | Standing::Unbounded => Ok(()),
+        Standing::Spent => Err(CrewFault::Budget(budget)),
+        Standing::Running => unreachable!(),
+    }
+}
+
+// The refusal of a solve for one of a board.
+fn fault_of(fault: BoardFault) -> CrewFault
+    requires { IsHandedOn fault }
+    ensures { IsFaultFor fault result }
+{
+    match fault {
+        BoardFault::Memory => CrewFault::Memory,
+        BoardFault::Overflow(place) => CrewFault::Overflow(place),
+        BoardFault::Stale(_) | BoardFault::Ended(_) => unreachable!(),
     }
 }

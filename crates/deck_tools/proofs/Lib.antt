@@ -2,3 +2,4 @@ mod Built
 mod NewNames
 mod Numbers
 mod Pages
+mod Shipping

@@ -1,9 +1,9 @@
 //! Transport decks, made from their size.
-ghost use Rattle.std.specs.Prelude.{◌≡◌, ◌+◌, ◌*◌, ◌/◌, ◌%◌, ◌^◌, ◌<◌, ◌≤◌, [], ◌∷◌, ◌++◌, map, length, false, true, IfOk, OnOk, None, codes, pos};
+ghost use Rattle.std.specs.Prelude.{◌≡◌, ◌+◌, ◌*◌, ◌/◌, ◌%◌, ◌^◌, ◌<◌, ◌≤◌, List, [], ◌∷◌, ◌++◌, map, length, false, true, IfOk, OnOk, None, codes, pos};
 ghost use Rattle.std.specs.Fmt.{decimal};
-ghost use Rattle.rational.specs.Rational.{one_ℚ, ratio};
+ghost use Rattle.rational.specs.Rational.{ℚ, ◌≤ℚ◌, one_ℚ, ratio, zero_ℚ};
 ghost use Rattle.rational.specs.Sparse.{upto};
-ghost use Rattle.lp_model.specs.Deck.{Column, column as column_at, nonnegative};
+ghost use Rattle.lp_model.specs.Deck.{Column, IsFeasible, column as column_at, nonnegative, objective};
 ghost use Rattle.lp_model.specs.Edit.{has_entry, is_column_name, is_row_name, new_deck, with_column, with_entry};
 ghost use Rattle.deck_tools.specs.Transport.{cost_of, number, route, sink, source, transport};
 
@@ -13,15 +13,19 @@ use itoa::Buffer;
 use no_memory::Memory;
 use std::alloc::Global;
 
-/// The transport deck of this size: so many sources and sinks, and a column for each pair of them.
+/// The transport deck of this size: so many sources and sinks, and a column for each pair of them. It has a feasible point,
+/// and none with an objective below 0, so it has an optimum.
 ///
 /// # Errors
 ///
 /// `Memory` for want of memory.
+#[tactic(auto, using(crate::proofs::Shipping::not_below))]
 pub fn make(alloc: Global, n: u32) -> Result<Deck, Memory>
     requires some { 1 ≤ n }
     requires few { n ≤ 20 }
-    ensures { IfOk result (λ deck. deck ≡ transport n) }
+    ensures deck { IfOk result (λ deck. deck ≡ transport n) }
+    ensures feasible { IfOk result (λ deck. (x : List ℚ) × IsFeasible deck x) }
+    ensures not_below { IfOk result (λ deck. (x : List ℚ) → IsFeasible deck x → zero_ℚ ≤ℚ objective deck x) }
 {
     let n = n as usize;
     let mut deck = Deck::new(alloc, Name::of(alloc, b"MAKE")?, Name::of(alloc, b"COST")?);

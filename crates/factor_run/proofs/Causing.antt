@@ -21,13 +21,13 @@ use Rattle.factor_run.specs.Causes.{Cause, move}
 
 -- ── what is worked without a table ──
 
-abbrev IsKept : List Listed → Type 0
+abbrev pub IsKept : List Listed → Type 0
 IsKept vs = without_table vs ≡ vs
 
 without-append : (xs ys : List Listed) → without_table (xs ++ ys) ≡ without_table xs ++ without_table ys
 without-append xs ys = filter-append (λ v. is_worked v.0.kind) xs ys
 
-kept-append : (xs ys : List Listed) → IsKept xs → IsKept ys → IsKept (xs ++ ys)
+pub kept-append : (xs ys : List Listed) → IsKept xs → IsKept ys → IsKept (xs ++ ys)
 kept-append xs ys h h' = without-append xs ys ∙ ap₂ (λ xs ys. xs ++ ys) h h'
 
 kept-flat_map : (f : ℕ → List Listed) (ks : List ℕ) → ((k : ℕ) → IsKept (f k)) → IsKept (flat_map f ks)
@@ -50,9 +50,9 @@ ratios_kept inst k s q t β α =
     (kept-flat_map _ (upto (row_count inst)) (λ p. position_kept (place k kind.Ratio (Some p) None) (at α p) (distance_at inst s t β α p) refl))
     (own_kept k q (bounds inst s.phase q).lower (bounds inst s.phase q).upper)
 
-placed_kept : (here : Place) (vs : List ℚ) → here.kind ≡ kind.Value → IsKept (map (λ v. (here, v)) vs)
+pub placed_kept : (here : Place) (vs : List ℚ) → is_worked here.kind ≡ true → IsKept (map (λ v. (here, v)) vs)
 placed_kept here [] is = refl
-placed_kept here (v ∷ vs) is = ap (λ t. cond t ((here, v) ∷ without_table (map (λ v. (here, v)) vs)) (without_table (map (λ v. (here, v)) vs))) (ap is_worked is) ∙ ap (λ rest. (here, v) ∷ rest) (placed_kept here vs is)
+placed_kept here (v ∷ vs) is = ap (λ t. cond t ((here, v) ∷ without_table (map (λ v. (here, v)) vs)) (without_table (map (λ v. (here, v)) vs))) is ∙ ap (λ rest. (here, v) ∷ rest) (placed_kept here vs is)
 
 value_kept : (k : ℕ) (t ratio : ℚ) (β α : List ℚ) (i : ℕ) → IsKept (value_listing k t ratio β α i)
 value_kept k t ratio β α i = placed_kept (place k kind.Value (Some i) None) _ refl
@@ -72,7 +72,7 @@ module _ (w : ℕ) where
       by None fits = (here, fit-append w xs ys fits ∙ e)
       by (Some first) unfit = (first, unfit-append w xs ys first unfit)
 
-  in-middle : (xs ys zs : List Listed) → IsKept ys → (here : Place) → first_unfit w ys ≡ Some here → (first : Place) × (first_unfit w (without_table (xs ++ ys ++ zs)) ≡ Some first)
+  pub in-middle : (xs ys zs : List Listed) → IsKept ys → (here : Place) → first_unfit w ys ≡ Some here → (first : Place) × (first_unfit w (without_table (xs ++ ys ++ zs)) ≡ Some first)
   in-middle xs ys zs kept here e =
       let (first, is) = after-some (without_table xs) (without_table ys) here (ap (first_unfit w) kept ∙ e) in (
         first,

@@ -1,3 +1,4 @@
 pub mod Built
 pub mod Calm
 pub mod Causes
+pub mod Bound

@@ -1,9 +1,9 @@
 -- The next multiplier of a list, one multiplier, and the positions behind one.
-use Rattle.std.proofs.Common.{◌≡◌, ◌≢◌, ℕ, ◌+◌, ◌*◌, ◌<◌, ◌≤◌, eqb, List, [], ◌∷◌, ◌++◌, length, drop, get_or, Option, Some, None, Result, Ok, Err, ⊎_elim, sym, ◌∙◌, ap, ap₂, subst, length-append, arith}
+use Rattle.std.proofs.Common.{◌≡◌, ◌≢◌, ℕ, ◌+◌, ◌*◌, ◌<◌, ◌≤◌, eqb, List, [], ◌∷◌, ◌++◌, length, drop, get_or, Option, Some, None, Result, Ok, Err, ⊎_elim, refl, sym, ◌∙◌, ap, ap₂, subst, length-append, arith}
 use Rattle.std.proofs.lemmas.Bool.{cases_eq, eq-eqb, ne_eqb, cond-true, cond-false}
 use Rattle.std.proofs.lemmas.List.{at_drop_more, at_drop_all}
 use Rattle.chain_links.specs.Lists.{after, from, rest}
-use Rattle.rational.specs.Rational.{ℚ, ◌/ℚ◌}
+use Rattle.rational.specs.Rational.{ℚ, zero_ℚ, ◌/ℚ◌}
 use Rattle.rational.specs.Worked.{done, bind, less, work, quotient, settle}
 use Rattle.rational.proofs.Settling.{settle-bind, settle-bind_none}
 use Rattle.exact_frac.specs.declared.unfit.Unfit.{Unfit}
@@ -15,6 +15,7 @@ use Rattle.factor_model.specs.Upper.{Triangle, IsUpper, In, row_of, cell, diagon
 use Rattle.factor_model.specs.Update.{less_multiples, multiplier, multipliers, behind}
 use Rattle.factor_model.proofs.UpperShape.{in_order, order_length}
 use Rattle.factor_model.proofs.SparseLaws.{stored_cases}
+use Rattle.upper_form.proofs.Steps.{quotient-none}
 use Rattle.upper_form.proofs.Walk.{walk_on}
 
 module _ (item : ℕ → ℚ) (ks : List (ℕ × ℚ)) (j : ℕ) where
@@ -50,6 +51,10 @@ module _ (w : ℕ) (u : Triangle) (r : ℕ) (ks : List (ℕ × ℚ)) (s : ℕ) (
       → Exact k (rest /ℚ d) res → Settles w (multiplier u r ks s) res
   multiplier_settles k rest d (Ok a) e f h exact = divided k rest d e f h ∙ settles-exact k (rest /ℚ d) (Ok a) exact
   multiplier_settles k rest d (Err b) e f h exact = divided k rest d e f h ∙ settles-exact k (rest /ℚ d) (Err b) exact
+
+  -- what is 0 stays 0 by the diagonal
+  pub multiplier_none : (rest : ℚ) → 1 ≤ w → rest ≡ zero_ℚ → settle w (less_multiples (λ i. cell u i s) x ks) ≡ Some rest → settle w (multiplier u r ks s) ≡ Some rest
+  multiplier_none rest wide none h = divided w rest (diagonal u s) refl refl h ∙ quotient-none w wide rest (diagonal u s) none
 
 -- ---- the positions behind
 

@@ -1,15 +1,18 @@
 -- What is left when an update's parts have settled.
-use Rattle.std.proofs.Common.{◌≡◌, ◌≢◌, ℕ, ◌+◌, ◌<◌, List, [], ◌∷◌, ◌++◌, length, Some, None, Result, Ok, Err, false, sym, subst, ap, ◌∙◌, arith}
+use Rattle.std.proofs.Common.{◌≡◌, ◌≢◌, ℕ, ◌+◌, ◌<◌, List, [], ◌∷◌, ◌++◌, length, set, Some, None, Result, Ok, Err, false, sym, subst, ap, ap₂, ◌∙◌, arith}
 use Rattle.std.specs.Result.{OnOk, IfErr, IsErrAnd, is_err}
 use Rattle.std.proofs.lemmas.List.Sums.{sum_by-cons, sum_by-append}
 use Rattle.rational.specs.Rational.{ℚ, zero_ℚ, ◌*ℚ◌}
 use Rattle.rational.specs.Sum.{at}
 use Rattle.rational.specs.Worked.{Worked, done, settle}
 use Rattle.rational.proofs.Settling.{settle-done, settle-bind, settle-bind_none, settle-answer}
+use Rattle.sparse_cols.specs.Sparse.{Sparse}
 use Rattle.factor_model.specs.declared.Op.{Op}
+use Rattle.factor_model.specs.declared.Op.TheVariants.{Row}
 use Rattle.factor_model.specs.Eta.{apply, entries, stored}
-use Rattle.factor_model.specs.Vectors.{vector}
-use Rattle.factor_model.specs.Upper.{Triangle, IsUpper, Solves, diagonal}
+use Rattle.factor_model.specs.Vectors.{entry, vector, sparse}
+use Rattle.factor_model.specs.Upper.{Triangle, IsUpper, Solves, diagonal, row_of}
+use Rattle.factor_model.specs.Edits.{clear_row, replace_column}
 use Rattle.factor_model.specs.Represents.{Represents}
 use Rattle.factor_model.specs.Update.{AreApart, HasPivot, RowEta, update, row_operation, updated_upper, updated_parts, with_column}
 use Rattle.factor_model.proofs.UpdateLaws.{taken-is, taken-apart, diagonal-is, operation-entries, pivot-element, pivot-nonzero, update-represents}
@@ -26,6 +29,20 @@ refused_for w c (Err f) none is = subst (IsCause w c) (sym is) none
 pub kept_by : {A E P : Type 0} (r : Result A E) → false ≡ is_err r → OnOk r P → P
 kept_by (Ok a) e h = h
 kept_by (Err f) e h = absurd cc
+
+-- the row operation that is made and put behind the others is the update's
+pub operation_put : (ops pushed : List Op) (u : Triangle) (p : ℕ) (e : RowEta) (operation : Sparse ℚ) (n : ℕ) (taken : List (ℕ × ℚ)) (row : ℕ)
+    → operation ≡ sparse (vector n (entry taken)) → n ≡ length u.rows → taken ≡ e.taken → row ≡ row_of u p → pushed ≡ ops ++ Row row operation ∷ []
+    → pushed ≡ ops ++ row_operation u p e ∷ []
+operation_put ops pushed u p e operation n taken row made len kept paired put =
+    put ∙ ap₂ (λ (r : ℕ) (k : Sparse ℚ). ops ++ Row r k ∷ []) paired (made ∙ ap₂ (λ (j : ℕ) (ks : List (ℕ × ℚ)). sparse (vector j (entry ks))) len kept)
+
+-- the form that is cleared, and then has the new column, is the update's
+pub column_put : (u cleared left : Triangle) (p : ℕ) (spike : List ℚ) (e : RowEta) (column : Sparse ℚ) (row : ℕ)
+    → column ≡ sparse (set spike row e.pivot) → row ≡ row_of u p → cleared ≡ clear_row u p → left ≡ replace_column cleared p column
+    → left ≡ updated_upper u p spike e
+column_put u cleared left p spike e column row made paired clear put =
+    put ∙ ap₂ (λ (t : Triangle) (k : Sparse ℚ). replace_column t p k) clear (made ∙ ap (λ (r : ℕ). sparse (set spike r e.pivot)) paired)
 
 module _ (w : ℕ) (ops : List Op) (u : Triangle) (p : ℕ) (spike : List ℚ) where
   pub parts_stop : settle w (update u p spike) ≡ None → settle w (updated_parts ops u p spike) ≡ None

@@ -14,7 +14,8 @@
 //!
 //! **Method.** J. J. H. Forrest and J. A. Tomlin, "Updated triangular factors of the basis to maintain sparsity in the
 //! product form simplex method", Mathematical Programming 2 (1972). The multipliers are found by a solve for a row over
-//! the positions behind, which keeps those that are not 0.
+//! the positions behind, which keeps those that are not 0, flags their rows, and looks at no more than the stored rows of a
+//! column that has none of these.
 //!
 //! It stands on `row_eta` and `upper_form` for the parts, on `factor_model` for its definitions and laws, and on
 //! `sparse_steps` for its products.
@@ -77,7 +78,8 @@ pub fn update<A: Arith>(
 {
     let row = upper.row_of(p);
     let mut taken = room(alloc, upper.len())?;
-    let pivot = reduce(upper, p, spike, &mut taken, arith)?;
+    let mut flags = no_flags(alloc, upper.len())?;
+    let pivot = reduce(upper, p, spike, &mut taken, &mut flags, arith)?;
     let operation = by_row(alloc, upper.len(), &taken)?;
     let column = with_item(alloc, spike, row, pivot)?;
     if etas.push(Op::Row(row as u32, operation)).is_err() {
@@ -94,4 +96,11 @@ fn room(alloc: Global, count: usize) -> Result<Vec<(usize, Frac)>, Memory>
     ensures room { IfOk result (λ taken. count ≤ vec_capacity taken) }
 {
     Ok(Vec::with_capacity(alloc, count)?)
+}
+
+// So many flags, none of which is set.
+fn no_flags(alloc: Global, count: usize) -> Result<Vec<bool>, Memory>
+    ensures { IfOk result (λ flags. length flags.items ≡ count) }
+{
+    Ok(vec![in alloc; false; count]?)
 }

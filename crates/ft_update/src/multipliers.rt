@@ -1,7 +1,8 @@
 //! The multipliers of an update.
 
-ghost use Rattle.std.specs.Prelude.{◌≡◌, ◌+◌, ◌*◌, ◌<◌, ◌≤◌, ◌++◌, [], length, vec_capacity, MatchResult, Some, None};
+ghost use Rattle.std.specs.Prelude.{◌≡◌, ℕ, true, ◌+◌, ◌*◌, ◌<◌, ◌≤◌, ◌++◌, [], length, vec_capacity, MatchResult, Some, None};
 ghost use Rattle.std.specs.List.{All};
+ghost use Rattle.rational.specs.Rational.{ℚ};
 ghost use Rattle.rational.specs.Sum.{at};
 ghost use Rattle.rational.specs.Worked.{settle};
 ghost use Rattle.exact_frac.specs.Count.{unfit_after};
@@ -10,6 +11,8 @@ ghost use Rattle.factor_model.specs.Upper.{IsUpper, cell, row_of};
 ghost use Rattle.factor_model.specs.Vectors.{stored_pair};
 ghost use Rattle.factor_model.specs.Update as update;
 ghost use Rattle.factor_model.specs.Update.{behind, less_multiples};
+ghost use Rattle.ft_update.specs.Inner.Flagged.{AreFlagged};
+ghost use Rattle.upper_form.specs.Flags.{is_flagged};
 
 use exact_frac::{Arith, Frac, Unfit};
 use sparse_steps::less_product;
@@ -73,20 +76,60 @@ fn multiplier<A: Arith>(
 {
     let entry = upper.entry(row, s);
     match less_entries(upper, s, entry, taken, arith) {
+        Ok(rest) if rest.is_zero() => Ok(rest),
         Ok(rest) => arith.div(rest, upper.diagonal(s)),
         Err(unfit) => Err(unfit),
     }
 }
 
-// Keeps a multiplier with its row, where it is not 0.
-fn keep(taken: &mut Vec<(usize, Frac)>, row: usize, k: Frac)
-    requires { length taken.old.items < vec_capacity taken.old }
+// Keeps a multiplier with its row, which it flags, where it is not 0.
+fn keep(taken: &mut Vec<(usize, Frac)>, flags: &mut [bool], row: usize, k: Frac)
+    requires space { length taken.old.items < vec_capacity taken.old }
+    requires row { row < length flags.old }
     ensures kept { taken.new.items ≡ taken.old.items ++ stored_pair row k }
     ensures room { vec_capacity taken.new ≡ vec_capacity taken.old }
+    ensures still { (i : ℕ) → is_flagged flags.old i ≡ true → is_flagged flags.new i ≡ true }
+    ensures flagged { AreFlagged flags.old taken.old.items → AreFlagged flags.new taken.new.items }
 {
     if !k.is_zero() {
+        flags[row] = true;
         taken.push_reserved((row, k));
     }
+}
+
+// Adds the multiplier of a position behind. The row and those of the multipliers are flagged: where the position's column
+// has an entry in none of them, the multiplier is 0.
+fn add_multiplier<A: Arith>(
+    upper: &Upper,
+    row: usize,
+    s: usize,
+    taken: &mut Vec<(usize, Frac)>,
+    flags: &mut [bool],
+    arith: &mut A,
+) -> Result<(), Unfit>
+    requires position { s < length upper.now.rows }
+    requires length { length flags.old ≡ length upper.now.rows }
+    requires space { length taken.old.items < vec_capacity taken.old }
+    requires row { is_flagged flags.old row ≡ true }
+    requires flagged { AreFlagged flags.old taken.old.items }
+    ensures settled { MatchResult result
+        (λ _. (k : ℚ) × (settle (A.width arith.old) (update.multiplier upper.now row taken.old.items s) ≡ Some k)
+        × (taken.new.items ≡ taken.old.items ++ stored_pair (row_of upper.now s) k))
+        (λ _. settle (A.width arith.old) (update.multiplier upper.now row taken.old.items s) ≡ None) }
+    ensures fewer { length taken.new.items ≤ length taken.old.items + 1 }
+    ensures room { vec_capacity taken.new ≡ vec_capacity taken.old }
+    ensures still { (i : ℕ) → is_flagged flags.old i ≡ true → is_flagged flags.new i ≡ true }
+    ensures flagged { AreFlagged flags.new taken.new.items }
+    ensures width { A.width arith.new ≡ A.width arith.old }
+    ensures unfit { A.unfit_count arith.new ≡ unfit_after (A.unfit_count arith.old) result }
+    ensures work { A.work_count arith.new ≤ A.work_count arith.old + (1 + length taken.old.items) }
+{
+    if !upper.meets(s, flags) {
+        return Ok(());
+    }
+    let k = multiplier(upper, row, s, taken, arith)?;
+    keep(taken, flags, upper.row_of(s), k);
+    Ok(())
 }
 
 // The multipliers of the positions behind `p`, in their order.
@@ -94,10 +137,12 @@ fn multipliers<A: Arith>(
     upper: &Upper,
     p: usize,
     taken: &mut Vec<(usize, Frac)>,
+    flags: &mut [bool],
     arith: &mut A,
 ) -> Result<(), Unfit>
     requires upper { IsUpper (length upper.now.rows) upper.now }
     requires position { p < length upper.now.rows }
+    requires length { length flags.old ≡ length upper.now.rows }
     requires none { taken.old.items ≡ [] }
     requires room { length upper.now.rows ≤ vec_capacity taken.old }
     ensures settled { Leaves (A.width arith.old) (update.multipliers upper.now (row_of upper.now p) [] (behind p upper.now.order)) result taken.new.items }
@@ -107,26 +152,28 @@ fn multipliers<A: Arith>(
     ensures work { A.work_count arith.new + length upper.now.rows ≤ A.work_count arith.old + length upper.now.rows * length upper.now.rows }
 {
     let row = upper.row_of(p);
+    flags[row] = true;
     let mut next = upper.order().after(p);
     while let Some(s) = next {
         next = upper.order().after(s);
-        let k = multiplier(upper, row, s, taken, arith)?;
-        keep(taken, upper.row_of(s), k);
+        add_multiplier(upper, row, s, taken, flags, arith)?;
     }
     Ok(())
 }
 
-/// What an update works: the multipliers, in the buffer, and the new diagonal.
+/// What an update works: the multipliers, in the buffer, and the new diagonal. The flags are used up.
 pub(crate) fn reduce<A: Arith>(
     upper: &Upper,
     p: usize,
     spike: &[Frac],
     taken: &mut Vec<(usize, Frac)>,
+    flags: &mut [bool],
     arith: &mut A,
 ) -> Result<Frac, Unfit>
     requires upper { IsUpper (length upper.now.rows) upper.now }
     requires position { p < length upper.now.rows }
     requires length { length spike.now ≡ length upper.now.rows }
+    requires flags { length flags.old ≡ length upper.now.rows }
     requires none { taken.old.items ≡ [] }
     requires room { length upper.now.rows ≤ vec_capacity taken.old }
     ensures settled { MatchResult result
@@ -138,7 +185,7 @@ pub(crate) fn reduce<A: Arith>(
 {
     let row = upper.row_of(p);
     let item = spike[row];
-    match multipliers(upper, p, taken, arith) {
+    match multipliers(upper, p, taken, flags, arith) {
         Ok(()) => less_items(spike, item, taken, arith),
         Err(unfit) => Err(unfit),
     }

@@ -1,5 +1,5 @@
 -- What factoring a matrix gives the factors that are made of it.
-use Rattle.std.proofs.Common.{◌≡◌, ℕ, ◌+◌, ◌*◌, ◌-◌, ◌≤◌, List, length, Some, sym, ◌∙◌, ap, subst, arith, mul_comm}
+use Rattle.std.proofs.Common.{◌≡◌, ℕ, ◌+◌, ◌*◌, ◌-◌, ◌≤◌, List, length, Some, sym, ◌∙◌, subst, arith, mul_comm}
 use Rattle.rational.specs.Rational.{ℚ}
 use Rattle.rational.specs.Worked.{done, settle}
 use Rattle.rational.proofs.Settling.{settle-answer, settle-bind, settle-done}
@@ -8,7 +8,6 @@ use Rattle.factor_model.specs.Eta.{AreOps, stored}
 use Rattle.factor_model.specs.Upper.{Triangle}
 use Rattle.factor_model.specs.Represents.{Represents}
 use Rattle.factor_model.specs.Factoring.{factored, whole, fresh, made_factors}
-use Rattle.factor_model.specs.Factors.{Factors}
 use Rattle.factor_model.proofs.FactoredLaws.{factored-represents, factored-few}
 use Rattle.ftran_btran.specs.Kept.{AreFew}
 

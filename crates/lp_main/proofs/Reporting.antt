@@ -22,7 +22,7 @@ use Rattle.lp_laws.proofs.FarkasGap.{gap}
 use Rattle.lp_laws.proofs.AlongRays.{endless}
 use Rattle.deck_model.specs.Outcome.{HasLengthsOf, outcome_of}
 use Rattle.lp_text.specs.Report.{Report}
-use Rattle.crew.specs.declared.closing.Closed.{Closed}
+use Rattle.two_phase.specs.declared.board.Closed.{Closed}
 use Rattle.crew.specs.declared.faults.CrewFault.TheVariants as fault
 use Rattle.crew.specs.Answers.{HasClosed, IsCause as IsCrewCause}
 use Rattle.crew.proofs.Complete.{spent_below, start_overflows}

@@ -1,5 +1,14 @@
 -- From what a solve of a transport deck answers to its summary.
-use Rattle.std.proofs.Common.{◌≡◌, ℕ, ◌<◌, List, Option, true, Result, Ok, Err, refl, sym, subst, inl}
+use Rattle.std.proofs.Common.{◌≡◌, ℕ, ◌<◌, List, Option, Some, true, Result, Ok, Err, refl, sym, subst, ap, inl, arith}
+use Rattle.std.proofs.lemmas.Int.{ints}
+use Rattle.rational.specs.Rational.{ℚ, zero_ℚ, ◌≤ℚ◌, ◌<ℚ◌}
+use Rattle.rational.proofs.Linear.{linear, ◌≼◌, ◌≺◌, ◌⟹◌, never}
+use Rattle.rational.proofs.Ring.{𝟘}
+use Rattle.lp_model.specs.declared.Entry.{Entry}
+use Rattle.lp_model.specs.Deck.{IsFeasible, in_sense, objective}
+use Rattle.lp_model.specs.Outcome.{Outcome, infeasible, optimal, unbounded}
+use Rattle.lp_text.specs.Report.{Report}
+use Rattle.lp_main.specs.Serves.{IsSolved, Means}
 use Rattle.std.specs.Prelude.{IfErr, IsErrAnd}
 use Rattle.deck_tools.specs.Transport.{transport}
 use Rattle.lp_model.specs.Deck.{Deck}
@@ -12,12 +21,33 @@ use Rattle.lp_main.specs.declared.refusal.Refusal.{Refusal}
 use Rattle.lp_main.specs.declared.refusal.Refusal.TheVariants as refusal
 use Rattle.lp_main.specs.declared.status.Answer.{Answer}
 use Rattle.lp_main.specs.declared.words.Asked.{Asked}
-use Rattle.lp_main.specs.Solves.{IsReportCause}
-use Rattle.lp_main.specs.Summaries.{IsSummaryCause, summary_budget}
+use Rattle.lp_main.specs.Solves.{IsReportCause, IsReportOf}
+use Rattle.lp_main.specs.Summaries.{IsSummary, IsSummaryCause, summary, summary_budget}
 
 -- what is asked of the run of a made deck
 abbrev pub all_moves : Asked
 all_moves = record { form = Fixed; budget = summary_budget; log = true; version = 1 }
+
+-- a deck that has a feasible point, and none with an objective below 0, has come to an optimum
+pub has_optimum : (n : ℕ) (d : Deck) → d ≡ transport n → (x : List ℚ) × IsFeasible d x → ((x : List ℚ) → IsFeasible d x → zero_ℚ ≤ℚ objective d x)
+    → (r : Report) → IsReportOf all_moves d r → (x y : List ℚ) × (v : ℚ) × (r.outcome ≡ optimal x y v)
+has_optimum n d made has bounded r is = by_outcome r.outcome is.solved.means refl
+  where
+    by_outcome : (o : Outcome) → Means d o → r.outcome ≡ o → (x y : List ℚ) × (v : ℚ) × (r.outcome ≡ optimal x y v)
+    by_outcome (optimal x y v) means e = (x, y, v, e)
+    by_outcome (infeasible y) means e = absurd (means has.0 has.1)
+    by_outcome (unbounded x ray) means e =
+        let below = means zero_ℚ in
+        let counted : in_sense d.sense (objective d below.0) ≡ objective d below.0 = ap (λ d'. in_sense d'.sense (objective d below.0)) made in
+        absurd (linear 1 (λ o. 𝟘 ≼ o ⟹ o ≺ 𝟘 ⟹ never) (omega (arith, ints)) (objective d below.0) (bounded below.0 below.1) (subst (λ o. o <ℚ zero_ℚ) counted below.2))
+
+-- the text of a summary is the summary of the deck's run
+pub summed_up : (n : ℕ) (d : Deck) → d ≡ transport n → (r : Report) → IsReportOf all_moves d r → (text : List ℕ)
+    → ((log : List Entry) (x y : List ℚ) (v : ℚ) → r.log ≡ Some log → r.outcome ≡ optimal x y v → text ≡ summary n log v)
+    → (x y : List ℚ) × (v : ℚ) × (r.outcome ≡ optimal x y v) → IsSummary n text
+summed_up n d made r is text reads (x, y, v, e) =
+    let solved = subst (λ d. IsSolved summary_budget d is.log r.outcome) made is.solved in
+    (is.log, x, y, v, subst (IsSolved summary_budget (transport n) is.log) e solved, reads is.log x y v (ap (λ (t : Report). t.log) is.is) e)
 
 module _ (n : ℕ) (d : Deck) (made : d ≡ transport n) (w : ℕ) (old : Option (List ℕ)) where
   unsolved : (e : Refusal) → IsReportCause all_moves w d e → IsSummaryCause n w old old e

@@ -5,7 +5,8 @@ use Rattle.io_ends.specs.Bytes.{Appends, AppendsPrefix}
 use Rattle.deck_tools.specs.Transport.{transport}
 use Rattle.lp_model.specs.declared.Entry.{Entry}
 use Rattle.lp_model.specs.Log.{moves}
-use Rattle.lp_model.specs.Outcome.{Outcome, infeasible, optimal, unbounded}
+use Rattle.lp_model.specs.Outcome.{optimal}
+use Rattle.rational.specs.Rational.{ℚ}
 use Rattle.lp_run.specs.Instance.{instance_of}
 use Rattle.lp_run.specs.Listing.{Overflows}
 use Rattle.lp_run.specs.Run.{IsSpent}
@@ -15,27 +16,21 @@ use Rattle.lp_main.specs.declared.refusal.Refusal.{Refusal}
 use Rattle.lp_main.specs.declared.refusal.Refusal.TheVariants as refusal
 use Rattle.lp_main.specs.Refusals.{ended}
 use Rattle.lp_main.specs.Serves.{IsSolved}
-use Rattle.lp_main.specs.Verdicts.{outcome_word}
 
 -- how many moves the run may take
 abbrev pub summary_budget : ℕ
 summary_budget = 1000000
 
--- the objective of an optimum; the word of another outcome
-abbrev pub outcome_line : Outcome → List ℕ
-outcome_line (optimal x y v) = codes "OBJECTIVE " ++ fraction_text v
-outcome_line (infeasible y) = outcome_word (infeasible y)
-outcome_line (unbounded x r) = outcome_word (unbounded x r)
-
--- the size of the deck, its rows and columns, the moves of its run, and the outcome
-abbrev pub summary : ℕ → List Entry → Outcome → List ℕ
-summary n log o =
+-- the size of the deck, its rows and columns, the moves of its run, and the objective of its optimum
+abbrev pub summary : ℕ → List Entry → ℚ → List ℕ
+summary n log v =
     ended (codes "MAKE " ++ decimal n) ++ ended (codes "ROWS " ++ decimal (2 * n)) ++ ended (codes "COLUMNS " ++ decimal (n * n))
-    ++ ended (codes "MOVES " ++ decimal (moves log)) ++ ended (outcome_line o)
+    ++ ended (codes "MOVES " ++ decimal (moves log)) ++ ended (codes "OBJECTIVE " ++ fraction_text v)
 
--- the bytes sum up the deck's whole run
+-- the bytes sum up the deck's whole run, which comes to an optimum
 abbrev pub IsSummary : ℕ → List ℕ → Type 0
-IsSummary n bytes = (log : List Entry) × (o : Outcome) × IsSolved summary_budget (transport n) log o × (bytes ≡ summary n log o)
+IsSummary n bytes =
+    (log : List Entry) × (x y : List ℚ) × (v : ℚ) × IsSolved summary_budget (transport n) log (optimal x y v) × (bytes ≡ summary n log v)
 
 -- the sink gained the summary
 abbrev pub GivesSummary : ℕ → Option (List ℕ) → Option (List ℕ) → Type 0

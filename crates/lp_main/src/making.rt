@@ -1,23 +1,25 @@
 // A transport deck, made and solved.
-ghost use Rattle.std.specs.Prelude.{◌≡◌, ℕ, List, ◌≤◌, ◌++◌, ◌*◌, IfErr, IfOk, IsErrOf, OnOk, Some};
+ghost use Rattle.std.specs.Prelude.{◌≡◌, List, codes, ◌≤◌, ◌++◌, ◌*◌, IfErr, IfOk, IsErrOf, OnOk, Some};
 ghost use Rattle.std.specs.Fmt.{decimal};
 ghost use Rattle.io_ends.specs.Count.{Rose};
 ghost use Rattle.deck_tools.specs.Transport.{transport};
 ghost use Rattle.deck_model.specs.Outcome.{outcome_of};
 ghost use Rattle.lp_model.specs.declared.Entry.{Entry};
 ghost use Rattle.lp_model.specs.Log.{moves};
+ghost use Rattle.lp_model.specs.Outcome.{optimal};
+ghost use Rattle.lp_text.specs.Fraction.{fraction_text};
+ghost use Rattle.rational.specs.Rational.{ℚ};
 ghost use Rattle.lp_main.specs.Refusals.{ended};
-ghost use Rattle.lp_main.specs.Summaries.{GivesSummary, IsSummaryCause, outcome_line, summary};
+ghost use Rattle.lp_main.specs.Summaries.{GivesSummary, IsSummaryCause, summary};
 
 use crate::refusal::Refusal;
 use crate::solve::report_of;
 use crate::status::Answer;
-use crate::verdict_line::outcome_word;
 use crate::words::Asked;
 use cert_text::Report;
 use deck_model::{Log, Outcome};
 use deck_tools::make;
-use exact_frac::Arith;
+use exact_frac::{Arith, Frac};
 use io_ends::{Sink, write_all};
 use lp_text::Form;
 use no_memory::Memory;
@@ -43,19 +45,25 @@ fn put_number(text: &mut Vec<u8>, word: &[u8], number: u64) -> Result<(), Memory
     Ok(())
 }
 
-/// Appends the line of an outcome.
-fn put_outcome(text: &mut Vec<u8>, outcome: &Outcome) -> Result<(), Memory>
-    ensures { OnOk result (text.new.items ≡ text.old.items ++ ended (outcome_line (outcome_of outcome.now))) }
+/// Appends the line of an objective.
+fn put_objective(text: &mut Vec<u8>, objective: Frac) -> Result<(), Memory>
+    ensures { OnOk result (text.new.items ≡ text.old.items ++ ended (codes "OBJECTIVE " ++ fraction_text objective)) }
 {
-    match outcome {
-        Outcome::Optimal { objective, .. } => {
-            text.extend_from_slice(b"OBJECTIVE ")?;
-            frac_text::append(text, *objective)?;
-        }
-        _ => text.extend_from_slice(outcome_word(outcome).as_bytes())?,
-    }
+    text.extend_from_slice(b"OBJECTIVE ")?;
+    frac_text::append(text, objective)?;
     text.push(b'\n')?;
     Ok(())
+}
+
+/// The objective of an outcome that is an optimum.
+fn objective_of(outcome: &Outcome) -> Frac
+    requires { (x y : List ℚ) × (v : ℚ) × (outcome_of outcome.now ≡ optimal x y v) }
+    ensures { (x y : List ℚ) (v : ℚ) → outcome_of outcome.now ≡ optimal x y v → result ≡ v }
+{
+    match outcome {
+        Outcome::Optimal { objective, .. } => *objective,
+        _ => unreachable!(),
+    }
 }
 
 /// How many moves a log has.
@@ -68,10 +76,12 @@ fn moves_of(log: &Option<Log>) -> u64
     }
 }
 
-/// The summary of the run of a deck of a size.
+/// The summary of the run of a deck of a size, which has come to an optimum.
 fn summary(alloc: Global, size: u32, report: &Report) -> Result<Vec<u8>, Memory>
-    requires { size ≤ 20 }
-    ensures { IfOk result (λ text. (log : List Entry) → report.now.log ≡ Some log → text.items ≡ summary size log report.now.outcome) }
+    requires few { size ≤ 20 }
+    requires optimum { (x y : List ℚ) × (v : ℚ) × (report.now.outcome ≡ optimal x y v) }
+    ensures { (log : List Entry) (x y : List ℚ) (v : ℚ) → report.now.log ≡ Some log → report.now.outcome ≡ optimal x y v
+        → IfOk result (λ text. text.items ≡ summary size log v) }
 {
     let size = u64::from(size);
     let mut text = Vec::new(alloc);
@@ -79,7 +89,7 @@ fn summary(alloc: Global, size: u32, report: &Report) -> Result<Vec<u8>, Memory>
     put_number(&mut text, b"ROWS ", 2 * size)?;
     put_number(&mut text, b"COLUMNS ", size * size)?;
     put_number(&mut text, b"MOVES ", moves_of(&report.log))?;
-    put_outcome(&mut text, &report.outcome)?;
+    put_objective(&mut text, objective_of(&report.outcome))?;
     Ok(text)
 }
 

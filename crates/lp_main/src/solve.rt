@@ -30,6 +30,7 @@ use lp_text::Form;
 use mps_cards::LineReader;
 use mps_reader::{DeckFault, read_deck};
 use std::alloc::Global;
+use std::sync::Arc;
 use std::thread::Threads;
 
 /// The refusal where the reader of decks refuses.
@@ -81,29 +82,56 @@ pub fn report_of<R: Threads + Sync, A: Arith>(
 {
     let _rows = deck.rows();
     match Instance::of(alloc, deck, arith) {
-        Ok(inst) => report_of_instance(rt, alloc, asked, deck, &inst, arith),
+        Ok(inst) => report_of_shared(rt, alloc, asked, deck, inst, arith),
         Err(InstanceFault::Overflow(place)) => Err(Refusal::Overflow(place)),
         Err(InstanceFault::Memory) => Err(Refusal::Memory),
     }
 }
 
-/// The report of a deck by its instance.
+/// The report of a deck by its instance, which the run shares.
+fn report_of_shared<R: Threads + Sync, A: Arith>(
+    rt: &R,
+    alloc: Global,
+    asked: Asked,
+    deck: &Deck,
+    inst: Instance,
+    arith: &mut A,
+) -> Result<Report, Refusal>
+    requires deck { IsDeck deck.now }
+    requires instance { inst ≡ instance_of deck.now }
+    requires fits { StartFits (A.width arith.old) (instance_of deck.now) }
+    ensures report { IfOk result (IsReportOf asked deck.now) }
+    ensures cause { IfErr result (IsReportCause asked (A.width arith.old) deck.now) }
+    ensures same_width { A.width arith.new ≡ A.width arith.old }
+{
+    let Ok(shared) = Arc::new(alloc, inst) else {
+        return Err(Refusal::Memory);
+    };
+    let Ok(run) = shared.clone() else {
+        return Err(Refusal::Memory);
+    };
+    report_of_instance(rt, alloc, asked, deck, run, &shared, arith)
+}
+
+/// The report of a deck by its instance, which the run shares.
 fn report_of_instance<R: Threads + Sync, A: Arith>(
     rt: &R,
     alloc: Global,
     asked: Asked,
     deck: &Deck,
+    shared: Arc<Instance>,
     inst: &Instance,
     arith: &mut A,
 ) -> Result<Report, Refusal>
     requires deck { IsDeck deck.now }
+    requires shared { shared.value ≡ instance_of deck.now }
     requires instance { inst.now ≡ instance_of deck.now }
     requires fits { StartFits (A.width arith.old) (instance_of deck.now) }
     ensures report { IfOk result (IsReportOf asked deck.now) }
     ensures cause { IfErr result (IsReportCause asked (A.width arith.old) deck.now) }
     ensures same_width { A.width arith.new ≡ A.width arith.old }
 {
-    match solve_alone(rt, alloc, inst, asked.budget, arith) {
+    match solve_alone(rt, alloc, shared, asked.budget, arith) {
         Ok(closed) => report_of_closed(alloc, asked, inst, closed),
         Err(CrewFault::Overflow(place)) => Err(Refusal::Overflow(place)),
         Err(CrewFault::Budget(moves)) => Err(Refusal::Budget(moves)),

@@ -36,6 +36,20 @@ RHS
 ENDATA
 ";
 
+/// A deck with an entry of 5 bits that only a plain table meets.
+const BESIDE: &[u8] = b"NAME          T
+ROWS
+ N  COST
+ L  R1
+ L  R2
+COLUMNS
+    X         COST      -1             R1        1
+    W         R2        20
+RHS
+    S         R1        1              R2        1
+ENDATA
+";
+
 /// The status of a solve.
 fn solved<R: Threads + Sync, A: Arith>(
     rt: &R,
@@ -103,6 +117,21 @@ fn four_bits_are_enough(rt: HostRuntime) -> Result<(), Fail> {
         b"LPCERT 1\nDECK T\nOPTIMAL\nOBJECTIVE -9\nVALUE 1 X\nVALUE 2 Z\nVALUE 0 W\nPRICE -6 R1\nPRICE -3 R2\nEND\n".as_slice()
     );
     assert_eq!(rt; err.bytes(), b"".as_slice());
+    Ok(())
+}
+
+#[test]
+fn four_bits_are_enough_beside_a_longer_entry(rt: HostRuntime) -> Result<(), Fail> {
+    let alloc = rt.alloc();
+    let mut source = MemSource::new(Vec::from_slice(alloc, BESIDE)?, Vec::new(alloc));
+    let mut out = MemSink::new(alloc, 1000, Vec::new(alloc))?;
+    let mut err = MemSink::new(alloc, 1000, Vec::new(alloc))?;
+    let status = solved(&rt, alloc, &mut source, &mut out, &mut err, Narrow::new(4))?;
+    assert_eq!(rt; status, Status::Done);
+    assert_eq!(rt;
+        out.bytes(),
+        b"LPCERT 1\nDECK T\nOPTIMAL\nOBJECTIVE -1\nVALUE 1 X\nVALUE 0 W\nPRICE -1 R1\nPRICE 0 R2\nEND\n".as_slice()
+    );
     Ok(())
 }
 

@@ -54,8 +54,8 @@ value-above n from ((k, x) ∷ ps) j rising le = value-there k j x ps (λ e. ome
 
 module _ (n : ℕ) (m0 : ℕ → ℕ → ℚ) (e : Elimination) (reached : IsReached n m0 e) (s : Stage) (kept : IsKept n e s) where
   -- where no row is flagged, none is left
-  no_row : ((i : ℕ) → is_active s.left.items i ≡ false) → e.rows ≡ []
-  no_row off = by_case e.rows refl
+  pub rows_gone : ((i : ℕ) → is_active s.left.items i ≡ false) → e.rows ≡ []
+  rows_gone off = by_case e.rows refl
     where
       by_case : (rows : List ℕ) → e.rows ≡ rows → e.rows ≡ []
       by_case [] is = is
@@ -143,6 +143,3 @@ module _ (n : ℕ) (m0 : ℕ → ℕ → ℚ) (e : Elimination) (reached : IsRea
         let most : n * (n - 1) ≤ n * n = mul-le n (n - 1) n n (omega arith) (omega arith) in
         let one : 1 * (n * n) ≤ length e.rows * (n * n) = mul-le 1 (n * n) (length e.rows) (n * n) (omega (arith, ap length is)) (omega arith) in
         omega (arith, reached.few, most, one, ap stored kept.etas)
-
-  pub rows_gone : ((i : ℕ) → is_active s.left.items i ≡ false) → e.rows ≡ []
-  rows_gone off = no_row off

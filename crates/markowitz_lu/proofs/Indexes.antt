@@ -1,12 +1,9 @@
 -- A row's links by column.
-use Rattle.std.proofs.Common.{◌≡◌, ◌≢◌, ℕ, ◌<◌, ◌≤◌, List, length, set, replicate, Option, Some, None, refl, sym, ap, subst, ◌∙◌, ⊎_elim, arith}
+use Rattle.std.proofs.Common.{◌≡◌, ◌≢◌, ℕ, ◌<◌, ◌≤◌, List, length, set, replicate, Option, Some, None, sym, ap, subst, ◌∙◌, ⊎_elim, arith}
 use Rattle.std.proofs.lemmas.Bool.{cases_eq, cases_lt}
 use Rattle.std.proofs.lemmas.List.{get_or-set_same, get_or-set_other, get_or-replicate, get_or_past, length-replicate}
-use Rattle.std.specs.List.{Contains}
 use Rattle.sparse_cols.specs.Work.{value_in}
-use Rattle.cross_links.specs.Matrix.{Matrix, row, IsLink, IsMatrix, row_of, col_of}
-use Rattle.cross_links.proofs.Search.{Walked, walked_all}
-use Rattle.markowitz_lu.specs.Inner.Links.{IsLinkAt}
+use Rattle.cross_links.specs.Matrix.{Matrix, IsLink, IsMatrix, row_of, col_of}
 
 abbrev pub IsMet : Matrix → List (Option ℕ) → ℕ → Type 0
 IsMet a index k = value_in index (col_of a k) ≡ Some k
@@ -51,15 +48,3 @@ module _ (a : Matrix) (h : IsMatrix a) (i l p : ℕ) (link : IsLink a l) (in_row
       (subst (IsLink a) same link, ap (row_of a) (sym same) ∙ in_row, ap (col_of a) (sym same) ∙ in_col ∙ sym e))
       (λ (ne : q ≢ p). only q k (sym (there q ne) ∙ at))
       (cases_eq q p)
-
-pub all_indexed : (a : Matrix) → IsMatrix a → (i : ℕ) (next : Option ℕ) (index : List (Option ℕ)) → Walked (row a i) next (IsMet a index) → AreOnly a i index → next ≡ None
-    → (p : ℕ) → IsLinkAt a i p (value_in index p)
-all_indexed a h i next index walked only none p = by_case (value_in index p) refl
-  where
-    by_case : (o : Option ℕ) → value_in index p ≡ o → IsLinkAt a i p o
-    by_case None e =
-        λ has.
-        let held : Contains (row a i) has.0 = subst (λ (r : ℕ). Contains (row a r) has.0) has.2 (h.rows.held has.0 has.1) in
-        let met : value_in index p ≡ Some has.0 = ap (value_in index) (sym has.3) ∙ walked_all (row a i) next (IsMet a index) walked none has.0 held in
-        absurd cc
-    by_case (Some k) e = only p k e

@@ -19,14 +19,10 @@ use Rattle.markowitz_lu.specs.Inner.Lines.{less_line, less_lines}
 use Rattle.markowitz_lu.specs.Inner.Links.{IsAlike, IsLinkAt, IsPut}
 use Rattle.markowitz_lu.specs.Inner.Stops.{Stops}
 
--- a refusal for an unfit value, or for want of memory, handed on
+-- a refusal for an unfit value, handed on
 pub stopped : {A B : Type 0} (w : ℕ) (c : Worked A) (r : Result B LuFault) → settle w c ≡ None → IsErrAnd r (λ f. f ≡ Unfit) → IfErr r (Stops w c)
 stopped w c (Ok b) none is = tt
 stopped w c (Err f) none is = subst (Stops w c) (sym is) none
-
-pub out_of_memory : {A B : Type 0} (w : ℕ) (c : Worked A) (r : Result B LuFault) → IsErrAnd r (λ f. f ≡ Memory) → IfErr r (Stops w c)
-out_of_memory w c (Ok b) is = tt
-out_of_memory w c (Err f) is = subst (Stops w c) (sym is) tt
 
 -- a part that stops stops the whole
 pub stops_too : {A B : Type 0} (u w : ℕ) (c : Worked A) (d : Worked B) (f : LuFault) → (settle u c ≡ None → settle w d ≡ None) → Stops u c f → Stops w d f

@@ -67,7 +67,8 @@ module _ (n : ℕ) (m0 : ℕ → ℕ → ℚ) (e : Elimination) (reached : IsRea
   pub rows_len : length s.rows.items ≡ n
   rows_len = ap length kept.rows ∙ length-map-upto (row_paired e.pivots) n
 
-  module _ (l : ℕ) (x : Entry) (b d f : Matrix) (cl : IsCleared s.cross l x b d f) (col_below : x.1 < n) (row_list column_list : List (ℕ × ℚ)) (row_is : row_list ≡ row_pairs b x.0) (column_is : column_list ≡ col_pairs b x.1) where
+  module _ (l : ℕ) (x : Entry) (b d f : Matrix) (cl : IsCleared s.cross l x b d f) (col_below : x.1 < n)
+      (row_list column_list : List (ℕ × ℚ)) (row_is : row_list ≡ row_pairs b x.0) (column_is : column_list ≡ col_pairs b x.1) where
     f_size : f.size ≡ n
     f_size = cl.size ∙ kept.size
 

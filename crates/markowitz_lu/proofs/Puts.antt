@@ -1,28 +1,18 @@
 -- What a change of one entry does to the active part.
-use Rattle.std.proofs.Common.{◌≡◌, ◌≢◌, ℕ, eqb, ◌&&◌, cond, [], ◌∷◌, Option, Some, None, refl, sym, ap, subst, ◌∙◌, ⊎_elim}
+use Rattle.std.proofs.Common.{◌≡◌, ◌≢◌, ℕ, [], ◌∷◌, Option, Some, None, refl, sym, ap, subst, ◌∙◌, ⊎_elim}
 use Rattle.std.specs.Option.{IsSome}
-use Rattle.std.proofs.lemmas.Bool.{cases_eq, eq-eqb, ne_eqb}
+use Rattle.std.proofs.lemmas.Bool.{cases_eq}
 use Rattle.std.proofs.lemmas.List.{get_or-set_other}
 use Rattle.rational.specs.Rational.{ℚ, zero_ℚ}
 use Rattle.factor_model.specs.Factoring.{with_entry}
+use Rattle.factor_model.proofs.PivotLaws.{with_entry-here, with_entry-row, with_entry-position}
 use Rattle.cross_links.specs.Matrix.{Matrix, entry_at, IsLink, Has, IsMatrix, IsFilled, row_in, col_in, row_of, col_of, with_value, without_entry}
 use Rattle.cross_links.specs.Cells.{cell, HasNoZero}
 use Rattle.cross_links.proofs.Entries.{none_some, some_entry}
 use Rattle.cross_links.proofs.Cells.{has_from_cell, cell_from_has, cell-none, cell-filled, cell-filled_other, cell-set, cell-set_other, cell-cancelled, cell-cancelled_other, HasNoZero-filled, HasNoZero-set, HasNoZero-without}
 use Rattle.markowitz_lu.specs.Inner.Links.{IsAlike, IsLinkAt, IsPut}
 
--- the matrix with another entry, at that entry and at the others
-pub with_entry-here : (a : ℕ → ℕ → ℚ) (i p : ℕ) (x : ℚ) → with_entry a i p x i p ≡ x
-with_entry-here a i p x = ap (λ b. cond (b && eqb p p) x (a i p)) (eq-eqb i i refl) ∙ ap (λ b. cond b x (a i p)) (eq-eqb p p refl)
-
-pub with_entry-there : (a : ℕ → ℕ → ℚ) (i p : ℕ) (x : ℚ) (j q : ℕ) → ((j ≡ i) × (q ≡ p) → ⊥) → with_entry a i p x j q ≡ a j q
-with_entry-there a i p x j q other =
-    ⊎_elim
-    (λ (e : j ≡ i). ap (λ b. cond (b && eqb q p) x (a j q)) (eq-eqb j i e) ∙ ap (λ b. cond b x (a j q)) (ne_eqb q p (λ f. other (e, f))))
-    (λ (ne : j ≢ i). ap (λ b. cond (b && eqb q p) x (a j q)) (ne_eqb j i ne))
-    (cases_eq j i)
-
--- two that agree with it are one
+-- a matrix that has another entry, and else agrees, is the matrix with that entry
 pub with_entry-is : (a b : ℕ → ℕ → ℚ) (i p : ℕ) (x : ℚ) → b i p ≡ x → ((j q : ℕ) → ((j ≡ i) × (q ≡ p) → ⊥) → b j q ≡ a j q) → b ≡ with_entry a i p x
 with_entry-is a b i p x here there = λ k j q. pointwise j q k
   where
@@ -31,9 +21,9 @@ with_entry-is a b i p x here there = λ k j q. pointwise j q k
         ⊎_elim
         (λ (e : j ≡ i). ⊎_elim
         (λ (f : q ≡ p). ap (λ n. b n q) e ∙ ap (b i) f ∙ here ∙ sym (ap (λ n. with_entry a i p x n q) e ∙ ap (with_entry a i p x i) f ∙ with_entry-here a i p x))
-        (λ (ne : q ≢ p). let other : (j ≡ i) × (q ≡ p) → ⊥ = λ h. ne h.1 in there j q other ∙ sym (with_entry-there a i p x j q other))
+        (λ (ne : q ≢ p). let other : (j ≡ i) × (q ≡ p) → ⊥ = λ h. ne h.1 in there j q other ∙ sym (with_entry-position a i p x j q ne))
         (cases_eq q p))
-        (λ (ne : j ≢ i). let other : (j ≡ i) × (q ≡ p) → ⊥ = λ h. ne h.0 in there j q other ∙ sym (with_entry-there a i p x j q other))
+        (λ (ne : j ≢ i). let other : (j ≡ i) × (q ≡ p) → ⊥ = λ h. ne h.0 in there j q other ∙ sym (with_entry-row a i p x j q ne))
         (cases_eq j i)
 
 module _ (a b : Matrix) (h : IsMatrix a) (k : IsMatrix b) (nz : HasNoZero a) (mz : HasNoZero b) (alike : IsAlike a b) (i p : ℕ) (x : ℚ) where

@@ -1,8 +1,7 @@
 -- A line that is followed from link to link.
-use Rattle.std.proofs.Common.{◌≡◌, ℕ, ◌<◌, List, [], ◌∷◌, ◌++◌, length, map, eqb, Option, Some, None, slice_get, sym, ap, subst, ◌∙◌, append_assoc, arith}
+use Rattle.std.proofs.Common.{◌≡◌, ℕ, ◌<◌, List, [], ◌∷◌, ◌++◌, length, map, eqb, Option, Some, slice_get, sym, ap, subst, ◌∙◌, append_assoc, arith}
 use Rattle.std.specs.List.{Contains, IsDistinct}
 use Rattle.std.specs.Option.{IfSome}
-use Rattle.std.proofs.lemmas.List.{append-nil}
 use Rattle.chain_links.specs.Lists.{after, rest}
 use Rattle.chain_links.proofs.Rest.{rest-first, rest-next, IfSome-first, IfSome-after}
 
@@ -30,6 +29,3 @@ module _ (xs : List ℕ) (next : Option ℕ) (x : ℕ) (is : next ≡ Some x) (h
     pub read_on : {A : Type 0} (f : ℕ → A) (a : A) (read all : List A) → a ≡ f x → read ++ map f (rest next xs) ≡ all → (read ++ a ∷ []) ++ map f (rest next' xs) ≡ all
     read_on f a read all here e =
         append_assoc read (a ∷ []) (map f (rest next' xs)) ∙ ap (λ b. read ++ b ∷ map f (rest next' xs)) here ∙ ap (λ ls. read ++ map f ls) (sym next_left) ∙ e
-
-pub read_all : {A : Type 0} (f : ℕ → A) (xs : List ℕ) (next : Option ℕ) (read all : List A) → next ≡ None → read ++ map f (rest next xs) ≡ all → read ≡ all
-read_all f xs next read all none e = sym (append-nil read) ∙ ap (λ (o : Option ℕ). read ++ map f (rest o xs)) (sym none) ∙ e

@@ -28,7 +28,8 @@ section_of word = find (λ section. same_bytes (word_of section) word) sections
 abbrev pub has_begun : Section → List Section → Bool
 has_begun section begun = list_any (λ s. same_bytes (word_of s) (word_of section)) begun
 
--- whether a section may begin after those that have: the title first or never, the sense at most once and before the rows, the rows once, then the columns once, then the others, each at most once and in any order
+-- whether a section may begin after those that have: the title first or never, the sense at most once and before the rows, the rows once, then
+-- the columns once, then the others, each at most once and in any order
 abbrev pub may_begin : Section → List Section → Bool
 may_begin Title [] = true
 may_begin Title (s ∷ begun) = false

@@ -15,7 +15,8 @@ pub mod Room
 pub mod AfterFaults
 pub mod CardFaults
 pub mod CardSteps
-pub mod LineLemmas
+pub mod HandedOn
+mod LineLemmas
 pub mod LineSizes
 pub mod NeededLemmas
 pub mod ReachedLemmas

@@ -131,7 +131,8 @@ module _ (form : Form) (n used : ℕ) (s after : DeckSoFar) (line : Line) (j : j
       record {
         rest = p.rest';
         known = p.known;
-        ahead = h.ahead ∙ ap (read_lines form n used s) (lines_ahead kept kept' h.rest p.rest' left left' line h.known p.known t.all) ∙ goes_on form n used s after line (lines_of (kept' ++ p.rest')) j other;
+        ahead = h.ahead ∙ ap (read_lines form n used s) (lines_ahead kept kept' h.rest p.rest' left left' line h.known p.known t.all)
+            ∙ goes_on form n used s after line (lines_of (kept' ++ p.rest')) j other;
         taken = h.taken ++ t.taken;
         split = h.split ∙ ap (λ r. h.taken ++ r) p.split ∙ sym (append_assoc h.taken t.taken p.rest');
         through = subst (λ bytes. IsThrough form bytes p.rest' kept' (suc n) (used + size_of line) after) (append_assoc start h.taken t.taken)
@@ -317,11 +318,14 @@ module _ (form : Form) (start : List ℕ) (text left : Option (List ℕ)) (reade
     has_answered = record { sound = sound_next; count = answered_line.count ∙ sym answered_line.number }
 
     -- after a fault of the line the reader stands behind it
-    pub stands_behind : (T : Type 0) (f : DeckFault) → ((s : DeckSoFar) (line : Line) → IsDraftOf draft s → HasBytesOf form answer line → IsFoundAt answer.number (judge_text form s (bytes_counted form line.bytes)) f)
+    pub stands_behind : (T : Type 0) (f : DeckFault)
+        → ((s : DeckSoFar) (line : Line) → IsDraftOf draft s → HasBytesOf form answer line → IsFoundAt answer.number (judge_text form s (bytes_counted form line.bytes)) f)
         → ¬ IsErrOf {T = T} (Err f) fault.Read → StandsAfter f reader'
     stands_behind T f found_at other =
         let l = answered_line in
-        after_card T answer.number (judge_text form h.so_far (bytes_counted form l.line.bytes)) f reader' (text_judged form h.so_far (bytes_counted form l.line.bytes)) (found_at h.so_far l.line h.stands l.bytes) other has_answered
+        let counted = bytes_counted form l.line.bytes in
+        after_card T answer.number (judge_text form h.so_far counted) f reader' (text_judged form h.so_far counted)
+        (found_at h.so_far l.line h.stands l.bytes) other has_answered
 
     -- a fault of the line is the text's
     pub not_taken : (f : DeckFault) → ((s : DeckSoFar) (line : Line) → IsDraftOf draft s → HasBytesOf form answer line → IsFoundAt answer.number (judge_text form s (bytes_counted form line.bytes)) f)

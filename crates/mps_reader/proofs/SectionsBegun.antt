@@ -20,7 +20,8 @@ no_entry : (d : Deck) (i : ℕ) → d.columns ≡ [] → has_entry (column d (le
 no_entry d i e = ap (λ cs. has_entry (get_or cs (length cs - 1) no_column).entries i) e
 
 module _ (draft : Draft) (s : DeckSoFar) (h : IsDraftOf draft s) where
-  opened : (k : Section) (new : Draft) → new.begun.items ≡ k ∷ draft.begun.items → new.deck ≡ draft.deck → new.awaits_sense ≡ draft.awaits_sense → new.free_rows ≡ draft.free_rows → new.set ≡ None → new.bounds ≡ draft.bounds
+  opened : (k : Section) (new : Draft) → new.begun.items ≡ k ∷ draft.begun.items → new.deck ≡ draft.deck → new.awaits_sense ≡ draft.awaits_sense
+      → new.free_rows ≡ draft.free_rows → new.set ≡ None → new.bounds ≡ draft.bounds
       → (n : ℕ) → new.named ≡ replicate n None → may_begin k s.begun ≡ true
       → (has_begun Columns (k ∷ s.begun) ≡ true → n ≡ length draft.deck.rows + length draft.free_rows.keys)
       → (has_begun Columns (k ∷ s.begun) ≡ false → (draft.deck.columns ≡ []) × (n ≡ 0))
@@ -100,7 +101,8 @@ module _ (draft : Draft) (s : DeckSoFar) (h : IsDraftOf draft s) where
       }
 
   -- a sense that is given, or is awaited
-  pub sense_given : (sense : Option Sense) (new : Draft) → new ≡ (elim sense [ None ↦ record draft { awaits_sense = true } | Some v ↦ record draft { awaits_sense = false; deck = with_sense draft.deck v } ])
+  pub sense_given : (sense : Option Sense) (new : Draft)
+      → new ≡ (elim sense [ None ↦ record draft { awaits_sense = true } | Some v ↦ record draft { awaits_sense = false; deck = with_sense draft.deck v } ])
       → IsDraftOf new (with_sense_given s sense)
   sense_given None new is = subst (λ d. IsDraftOf d (with_sense_given s None)) (sym is) (record {
     begun = h.begun;
@@ -160,5 +162,8 @@ module _ (draft : Draft) (s : DeckSoFar) (h : IsDraftOf draft s) where
 pub section_taken : (s : DeckSoFar) (word second name : List ℕ) (kind : Section) → section_of word ≡ Some kind → has_no_sense kind second ≡ false → may_begin kind s.begun ≡ true
     → judge_section s word second name ≡ Ok (begin_section s kind second name)
 section_taken s word second name kind known sense may =
-    ap (λ o. elim o [ None ↦ Err fault.Section | Some k ↦ if has_no_sense k second then Err fault.Sense else if may_begin k s.begun then Ok (begin_section s k second name) else Err fault.Section ]) known
+    ap (λ o. elim o [
+      | None ↦ Err fault.Section
+      | Some k ↦ if has_no_sense k second then Err fault.Sense else if may_begin k s.begun then Ok (begin_section s k second name) else Err fault.Section
+    ]) known
     ∙ ap₂ (λ t u. if t then Err fault.Sense else if u then Ok (begin_section s kind second name) else Err fault.Section) sense may

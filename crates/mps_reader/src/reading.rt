@@ -101,13 +101,8 @@ pub fn read_deck<S: Source>(
         return Err(DeckFault::Memory);
     };
     'lines: loop {
-        let line = match next_line(lines, source, form) {
-            Ok(line) => line,
-            Err(fault) => return Err(fault),
-        };
-        if let Err(fault) = take_line(alloc, &mut draft, &line, form) {
-            return Err(fault);
-        }
+        let line = next_line(lines, source, form)?;
+        take_line(alloc, &mut draft, &line, form)?;
         if draft.has_finished() {
             return draft.into_deck(alloc);
         }

@@ -20,3 +20,4 @@ pub mod Supports
 pub mod Swaps
 pub mod Coming
 pub mod Tables
+pub mod StartWork

@@ -1,16 +1,14 @@
 -- What the step of a move works is what the run lists there.
-use Rattle.std.proofs.Common.{◌≡◌, ℕ, ◌<◌, ◌≤◌, List, [], ◌++◌, length, get_or, flat_map, Bool, eqb, ne_eqb, Some, None, inl, inr, sym, ◌∙◌, ap, ap₂, subst, arith}
+use Rattle.std.proofs.Common.{◌≡◌, ℕ, ◌<◌, ◌≤◌, List, [], ◌++◌, length, get_or, flat_map, Bool, inl, inr, sym, ◌∙◌, ap, ap₂, subst}
 use Rattle.lp_model.specs.declared.Entry.{Entry}
 use Rattle.lp_model.specs.declared.Entry.TheVariants.{Flip, Swap, Turn}
-use Rattle.lp_model.specs.declared.Kind.TheVariants as kind
 use Rattle.lp_model.specs.declared.Phase.TheVariants.{Two}
 use Rattle.lp_model.specs.declared.Side.{Side}
 use Rattle.rational.specs.Rational.{ℚ}
 use Rattle.rational.specs.Sparse.{upto}
 use Rattle.rational.specs.Sum.{at}
-use Rattle.rational.specs.Worked.{placed}
 use Rattle.lp_run.specs.Instance.{Instance, bounds, column_count, cost, row_count}
-use Rattle.lp_run.specs.Listing.{Listed, MoveLists, StepLists, move_listing, place, ratio_listing, value_listing}
+use Rattle.lp_run.specs.Listing.{Listed, MoveLists, StepLists, move_listing, ratio_listing, value_listing}
 use Rattle.lp_run.specs.Solution.{reduced}
 use Rattle.lp_run.specs.State.{State, after, basic, rest}
 use Rattle.lp_run.specs.Step.{IsNext, Leaves, Limit, direction}
@@ -21,9 +19,8 @@ use Rattle.table_laws.specs.Stands.{StandsAt, prices_shown}
 use Rattle.plain_table.specs.Inner.Costs.{costs_work_listing}
 use Rattle.plain_table.specs.Inner.Pivots.{swap_listing}
 use Rattle.plain_table.specs.Inner.Rows.{AreWide}
-use Rattle.plain_table.specs.Inner.Values.{value_work, values_listing}
+use Rattle.plain_table.specs.Inner.Values.{values_listing}
 use Rattle.plain_table.proofs.Anew.{costs_lists}
-use Rattle.plain_table.proofs.Parts.{same_parts}
 use Rattle.plain_table.proofs.Stepping.{found_limit, move_lists}
 use Rattle.plain_table.proofs.Swaps.{flipped_lists, swap_lists, turned_by}
 

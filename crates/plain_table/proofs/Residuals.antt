@@ -1,12 +1,11 @@
 -- What the structurals leave of the right sides.
-use Rattle.std.proofs.Common.{◌≡◌, ℕ, zero, suc, ◌+◌, ◌<◌, List, [], ◌∷◌, ◌++◌, map, Bool, true, false, cond, eqb, is_some, Option, Some, None, refl, sym, ◌∙◌, ap}
+use Rattle.std.proofs.Common.{◌≡◌, ℕ, zero, suc, ◌+◌, ◌<◌, List, ◌++◌, map, Bool, true, false, cond, is_some, Option, Some, None, refl, sym, ◌∙◌, ap}
 use Rattle.std.specs.List.{list_all, range_with_len}
-use Rattle.std.specs.Option.{unwrap_or}
 use Rattle.lp_model.specs.declared.Kind.TheVariants as kind
 use Rattle.lp_model.specs.declared.Place.{Place}
 use Rattle.lp_model.specs.declared.Side.TheVariants as side
 use Rattle.lp_model.specs.declared.Phase.TheVariants.{One}
-use Rattle.rational.specs.Rational.{ℚ, zero_ℚ, neg_ℚ, ◌*ℚ◌}
+use Rattle.rational.specs.Rational.{ℚ, neg_ℚ, ◌*ℚ◌}
 use Rattle.rational.specs.Sparse.{entry_at}
 use Rattle.rational.specs.Sum.{at}
 use Rattle.rational.specs.Width.{fits_width}
@@ -18,7 +17,6 @@ use Rattle.lp_run.specs.Instance.{Instance, bounds, coefficient, kind_bounds, pa
 use Rattle.lp_run.specs.Listing.{AllFit, Listed, first_unfit, place, start_entry, start_sums, taken}
 use Rattle.lp_run.proofs.FirstUnfit.{fit-append, unfit-append, unfit-placed}
 use Rattle.lp_run.proofs.Start.{kind_of_structural}
-use Rattle.sparse_cols.specs.Sparse.{value_at}
 use Rattle.plain_table.specs.Inner.Costs.{factors_from, priced}
 use Rattle.plain_table.specs.Inner.Starts.{residual_work}
 use Rattle.plain_table.proofs.Pricing.{priced_answer}

@@ -3,7 +3,7 @@ use Rattle.std.proofs.Common.{◌≡◌, ℕ, ◌+◌, ◌<◌, map, Bool, true,
 use Rattle.lp_model.specs.declared.Phase.{Phase}
 use Rattle.lp_model.specs.declared.Phase.TheVariants.{One, Two}
 use Rattle.lp_model.specs.declared.Side.{Side}
-use Rattle.lp_model.specs.Deck.{Interval, between, nonnegative}
+use Rattle.lp_model.specs.Deck.{between, nonnegative}
 use Rattle.rational.specs.Rational.{ℚ, zero_ℚ, one_ℚ, ◌+ℚ◌, ◌-ℚ◌, ◌*ℚ◌}
 use Rattle.rational.specs.Sparse.{at_index, entry_at, upto}
 use Rattle.rational.specs.Sum.{at, sum_ℚ}
@@ -13,7 +13,7 @@ use Rattle.rational.proofs.SumLaws.{sum-cong, sum-none, sum-split, sum-unit}
 use Rattle.rational.proofs.VectorLaws.{get-map-upto, length-map-upto}
 use Rattle.lp_run.specs.declared.ColumnKind.TheVariants as column
 use Rattle.lp_run.specs.Instance.{Instance, IsWellFormed, bounds, coefficient, column_count, kind_bounds, kind_coefficient, passed_side, residual, row_count, start_value, structural, structural_count}
-use Rattle.lp_run.specs.State.{State, artificial_start, basic, rest, resting_value, start_of, structural_start}
+use Rattle.lp_run.specs.State.{State, artificial_start, basic, rest, resting_value, start_of}
 use Rattle.lp_run.specs.Solution.{Values}
 use Rattle.lp_run.proofs.Start.{coefficient-logical, kind_of_artificial, kind_of_structural, pivot_sign, square, start_basis_entry}
 use Rattle.lp_run.proofs.StartStatuses.{start_artificial, start_structural}

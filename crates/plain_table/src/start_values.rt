@@ -1,11 +1,12 @@
 //! The basic values at the start.
-ghost use Rattle.std.specs.Prelude.{◌≡◌, ℕ, ◌<◌, ◌^◌, length, OnOk, Some};
+ghost use Rattle.std.specs.Prelude.{◌≡◌, ℕ, ◌+◌, ◌<◌, ◌≤◌, ◌^◌, length, OnOk, Some};
 ghost use Rattle.rational.specs.Rational.{◌-ℚ◌};
 ghost use Rattle.rational.specs.Sum.{at};
 ghost use Rattle.lp_run.specs.Instance.{IsWellFormed, passed_side, residual as residual_of, row_count};
 ghost use Rattle.lp_run.specs.Listing.{AllFit, StartFits, start_sums, Judges};
 ghost use Rattle.exact_frac.specs.Count.{unfit_after};
-ghost use Rattle.plain_table.specs.Inner.Starts.{basic_start, logical_rest, start_values_listing};
+ghost use Rattle.bland_ratio.specs.Entries.{stored_entries};
+ghost use Rattle.plain_table.specs.Inner.Starts.{basic_start, logical_rest, row_entries, start_values_listing};
 
 use crate::residual::residual;
 use crate::values::value_place;
@@ -46,6 +47,7 @@ fn left_beside<A: Arith>(
     ensures difference { result ≡ residual_of inst.now row -ℚ logical_rest inst.now row }
     ensures width { A.width arith.new ≡ A.width arith.old }
     ensures unfit { A.unfit_count arith.new ≡ A.unfit_count arith.old }
+    ensures work { A.work_count arith.new ≡ A.work_count arith.old }
 {
     match arith.sub(residual, end_passed(inst, row, side)) {
         Ok(left) => left,
@@ -60,6 +62,7 @@ fn fitting_residual<A: Arith>(inst: &Instance, row: usize, arith: &mut A) -> Fra
     ensures residual { result ≡ residual_of inst.now row }
     ensures width { A.width arith.new ≡ A.width arith.old }
     ensures unfit { A.unfit_count arith.new ≡ A.unfit_count arith.old }
+    ensures work { A.work_count arith.new ≤ A.work_count arith.old + row_entries inst.now row }
 {
     match residual(inst, row, arith) {
         Ok(residual) => residual,
@@ -76,6 +79,7 @@ fn basic_start<A: Arith>(inst: &Instance, row: usize, arith: &mut A) -> Frac
     ensures value { result ≡ basic_start inst.now row }
     ensures width { A.width arith.new ≡ A.width arith.old }
     ensures unfit { A.unfit_count arith.new ≡ A.unfit_count arith.old }
+    ensures work { A.work_count arith.new ≤ A.work_count arith.old + row_entries inst.now row }
 {
     let residual = fitting_residual(inst, row, arith);
     match inst.passed(row) {
@@ -85,7 +89,7 @@ fn basic_start<A: Arith>(inst: &Instance, row: usize, arith: &mut A) -> Frac
     }
 }
 
-/// The basic values at the start, by position.
+/// The basic values at the start, by position. At most one product is worked for each stored entry of the structurals.
 pub fn work_start_values<A: Arith>(
     inst: &Instance,
     arith: &mut A,
@@ -97,6 +101,7 @@ pub fn work_start_values<A: Arith>(
     ensures values { OnOk result ((p : ℕ) → p < row_count inst.now → at out.new p ≡ basic_start inst.now p) }
     ensures width { A.width arith.new ≡ A.width arith.old }
     ensures unfit { A.unfit_count arith.new ≡ unfit_after (A.unfit_count arith.old) result }
+    ensures work { A.work_count arith.new ≤ A.work_count arith.old + stored_entries inst.now }
 {
     for p in 0..inst.rows() {
         let value = basic_start(inst, p, arith);

@@ -3,17 +3,15 @@ use Rattle.std.proofs.Common.{◌≡◌, ℕ, List, Result, Ok, Err, IfOk, sym, 
 use Rattle.lp_model.specs.declared.Entry.{Entry}
 use Rattle.lp_run.specs.Instance.{Instance}
 use Rattle.lp_run.specs.Run.{IsRun}
-use Rattle.lp_run.specs.State.{State, start_of}
+use Rattle.lp_run.specs.State.{start_of}
 use Rattle.plain_table.specs.Plain.{Plain}
 use Rattle.plain_table.proofs.Replays.{leads_one}
 use Rattle.two_phase.specs.declared.ground.Ground.{Ground}
 use Rattle.two_phase.specs.declared.ground.Ground.TheVariants as ground
-use Rattle.two_phase.specs.declared.iterate.Iterate.{Iterate}
 use Rattle.two_phase.specs.declared.reached.Reached.{Reached}
 use Rattle.two_phase.specs.declared.reached.Reached.TheVariants as reached
 use Rattle.two_phase.specs.Inner.Grounds.{GroundReaches, GroundStands, ground_state}
 use Rattle.two_phase.specs.Inner.Plains.{IsFitted, TableReaches, TableStops}
-use Rattle.two_phase.specs.Inner.Reaching.{Reaches}
 
 pub reached_by : (w : ℕ) (inst : Instance) (log : List Entry) (g : Ground) → GroundStands w inst log g → IsRun inst log (ground_state g)
 reached_by w inst log (ground.Factors it) h = h.reached
@@ -22,12 +20,6 @@ reached_by w inst log (ground.Plain t) h = h.stands.table.reached
 -- at one log there is one state
 pub one_state : (w w' : ℕ) (inst : Instance) (log : List Entry) (g g' : Ground) → GroundStands w inst log g → GroundStands w' inst log g' → ground_state g ≡ ground_state g'
 one_state w w' inst log g g' h h' = leads_one inst (start_of inst) log (ground_state g) (ground_state g') (reached_by w inst log g h) (reached_by w' inst log g' h')
-
-pub iterate_ground : (w : ℕ) (inst : Instance) (budget : ℕ) (log : List Entry) (s : State) (log' : List Entry) (new : Iterate) (r : Reached) → Reaches w inst budget log s log' new r
-    → GroundReaches w inst budget log s log' (ground.Factors new) r
-iterate_ground w inst budget log s log' new (reached.Entry e) h = h
-iterate_ground w inst budget log s log' new (reached.End end) h = h
-iterate_ground w inst budget log s log' new reached.Spent h = h
 
 pub table_ground : (w : ℕ) (inst : Instance) (budget : ℕ) (log : List Entry) (t : Plain) (log' : List Entry) (t' : Plain) → IsFitted w inst log t → (r : Reached) → TableReaches w inst budget log t log' t' r
     → GroundReaches w inst budget log t.state log' (ground.Plain t') r

@@ -1,3 +1,6 @@
+pub mod Bases
+pub mod Boards
+pub mod Counting
 pub mod Deciding
 pub mod Following
 pub mod Grounds
@@ -5,6 +8,11 @@ pub mod Iterating
 pub mod Moving
 pub mod Plains
 pub mod Rounds
+pub mod Showing
 pub mod Solving
 pub mod Starting
 pub mod Taking
+pub mod Working
+pub mod Calms
+pub mod Tallies
+pub mod Spending

@@ -1,7 +1,6 @@
 -- A run to its end: it is short, and what is asked at each state is exact.
-use Rattle.std.proofs.Common.{◌≡◌, ℕ, ◌+◌, ◌-◌, ◌*◌, ◌<◌, ◌≤◌, inl, List, [], ◌∷◌, ◌++◌, length, length-append, ◌∙◌, ap, arith}
+use Rattle.std.proofs.Common.{◌≡◌, ℕ, ◌+◌, ◌-◌, ◌*◌, ◌<◌, ◌≤◌, List, [], ◌∷◌, ◌++◌, length, length-append, ◌∙◌, ap, arith}
 use Rattle.lp_model.specs.declared.Entry.{Entry}
-use Rattle.lp_model.specs.Log.{moves}
 use Rattle.lp_run.specs.Instance.{Instance, IsWellFormed}
 use Rattle.bland_laws.specs.Ends.{run_bound}
 use Rattle.bland_laws.proofs.Always.{instance_holds}
@@ -10,13 +9,9 @@ use Rattle.bland_ratio.specs.Pricing.{IsExactPay, IsExactTicket, IsTicketOf, Pay
 use Rattle.bland_ratio.specs.declared.tickets.Pay.{Pay}
 use Rattle.bland_ratio.specs.declared.tickets.Pay.TheVariants as pay
 use Rattle.bland_ratio.specs.declared.tickets.Ticket.{Ticket}
-use Rattle.plain_table.specs.declared.faults.TableFault.{TableFault}
-use Rattle.plain_table.specs.declared.faults.TableFault.TheVariants as fault
 use Rattle.two_phase.specs.declared.ground.Ground.{Ground}
 use Rattle.two_phase.specs.declared.ground.Ground.TheVariants as ground
 use Rattle.two_phase.specs.Inner.Grounds.{GroundStands, IsPlain, ground_state}
-use Rattle.two_phase.specs.Inner.Plains.{IsRunFault}
-use Rattle.two_phase.specs.Inner.Running.{IsSolveFault}
 use Rattle.two_phase.proofs.Grounds.{reached_by}
 
 -- an exact ticket has a status for each column, and a price for each row or a reduced cost for each column
@@ -30,10 +25,6 @@ exact_ticket w inst well_formed log g h ticket exact = record {
     by : (p : Pay) → IsExactPay inst (ground_state g) p → PaysEach inst p
     by (pay.Prices y) prices = prices.one_each
     by (pay.Costs d) costs = costs.0
-
-pub solve_fault : (w : ℕ) (inst : Instance) (budget : ℕ) (log : List Entry) → moves log ≤ budget → (f : TableFault) → IsRunFault w inst log f → IsSolveFault w inst budget f
-solve_fault w inst budget log within fault.Memory h = tt
-solve_fault w inst budget log within (fault.Overflow here) (s, run, first) = (log, s, run, within, inl first)
 
 -- 1 while there are factors to give up
 abbrev pub left : Ground → ℕ

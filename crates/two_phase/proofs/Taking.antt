@@ -1,5 +1,6 @@
 -- An iterate after an entry.
-use Rattle.std.proofs.Common.{◌≡◌, ◌≢◌, ℕ, ◌+◌, ◌<◌, ◌≤◌, List, [], ◌∷◌, ◌++◌, length, flat_map, ◌-◌, take, length-append, arith, Bool, cond, eqb, slice_set, true, false, Some, None, refl, sym, ◌∙◌, ap, subst}
+use Rattle.std.proofs.Common.{◌≡◌, ◌≢◌, ℕ, ◌+◌, ◌<◌, ◌≤◌, List, [], ◌∷◌, ◌++◌, length, flat_map, ◌-◌, take, length-append}
+use Rattle.std.proofs.Common.{arith, Bool, cond, eqb, slice_set, true, false, Some, None, refl, sym, ◌∙◌, ap, subst}
 use Rattle.std.proofs.lemmas.List.Sums.{sum_by-append, sum_by-cons}
 use Rattle.lp_model.specs.Log.{is_move, moves}
 use Rattle.std.proofs.Math.Seq.{take-append_seam}
@@ -47,7 +48,8 @@ statused w inst well_formed log it h q below = subst (λ n. q < n) (sym (instanc
 
 -- what an entry leaves of an iterate: `mid` is the iterate with the basic values and the factors after it worked
 pub taken_iterate : (w : ℕ) (inst : Instance) (log : List Entry) (it mid new : Iterate) (e : Entry) → IsIterate w inst log it → IsNext inst it.state e → mid.state ≡ it.state
-    → IsSized (row_count inst) mid → length mid.values.items ≡ row_count inst → Values inst (after it.state e) mid.spare.items → AreFactors (row_count inst) mid.factors (basis_entry inst (after it.state e))
+    → IsSized (row_count inst) mid → length mid.values.items ≡ row_count inst → Values inst (after it.state e) mid.spare.items
+    → AreFactors (row_count inst) mid.factors (basis_entry inst (after it.state e))
     → settle w (followed inst (after it.state e) (length log + 1) it.factors e) ≡ Some (Some mid.factors) → IsTaken e mid new → IsIterate w inst (log ++ e ∷ []) new
 taken_iterate w inst log it mid new e h next same sized each values factors follows taken = record {
   reached = subst (IsRun inst (log ++ e ∷ [])) (sym there) (leads_on inst (start_of inst) it.state log e h.reached next);
@@ -104,7 +106,8 @@ module _ (w : ℕ) (inst : Instance) (well_formed : IsWellFormed inst) (log : Li
         → Cause w inst (length log) it.state it.factors
     flip_refused k p number past here e =
         let has = reached_has_table inst log it.state h.reached in
-        flip_cause w inst (length log) it.state it.factors has.table (table_solves inst it.state has.table has.inverse has.entries) it.prices.items it.values.items it.alpha.items q pivoting r entered.decided.decides here
+        flip_cause w inst (length log) it.state it.factors has.table (table_solves inst it.state has.table has.inverse has.entries)
+        it.prices.items it.values.items it.alpha.items q pivoting r entered.decided.decides here
         (subst (λ t. first_unfit w (flat_map (value_listing (length log) t r it.values.items it.alpha.items) (upto (row_count inst))) ≡ Some here) (sym entered.decided.turns)
         (ap (first_unfit w) (sym (flipped_lists (row_count inst) (length log) p down (rest inst it.state q) r it.values.items it.alpha.items h.values.one_each past))
         ∙ subst (λ k. first_unfit w (values_listing k p down (rest inst it.state q) r it.values.items it.alpha.items) ≡ Some here) number e))
@@ -232,7 +235,8 @@ turned_iterate w inst well_formed log it h next t is = record {
 
 pub turn_iterate : (w : ℕ) (inst : Instance) → IsWellFormed inst → (log : List Entry) (it : Iterate) → IsIterate w inst log it → IsNext inst it.state Turn → (t : State) → t ≡ after it.state Turn
     → (log' : List Entry) → log' ≡ log ++ Turn ∷ [] → IsIterate w inst log' (record it { state = t; is_priced = false })
-turn_iterate w inst well_formed log it h next t is log' more = subst (λ log. IsIterate w inst log (record it { state = t; is_priced = false })) (sym more) (turned_iterate w inst well_formed log it h next t is)
+turn_iterate w inst well_formed log it h next t is log' more =
+    subst (λ log. IsIterate w inst log (record it { state = t; is_priced = false })) (sym more) (turned_iterate w inst well_formed log it h next t is)
 
 -- how many moves a log has with an entry more
 pub moves-more : (log : List Entry) (e : Entry) → moves (log ++ e ∷ []) ≡ moves log + moves (e ∷ [])
@@ -256,7 +260,8 @@ entry_within log log' budget e is within left = by (is_move e) refl
 -- ── what a step comes to ──
 
 module _ (w : ℕ) (inst : Instance) (budget : ℕ) (log : List Entry) (s : State) where
-  pub reaches_entry : (e : Entry) (log' : List Entry) (new : Iterate) → IsNext inst s e → log' ≡ log ++ e ∷ [] → IsIterate w inst log' new → moves log ≤ budget → (is_move e ≡ true → moves log ≢ budget)
+  pub reaches_entry : (e : Entry) (log' : List Entry) (new : Iterate) → IsNext inst s e → log' ≡ log ++ e ∷ [] → IsIterate w inst log' new → moves log ≤ budget
+      → (is_move e ≡ true → moves log ≢ budget)
       → Reaches w inst budget log s log' new (reached.Entry e)
   reaches_entry e log' new next is stands within left = (next, is, stands, entry_within log log' budget e is within left)
 

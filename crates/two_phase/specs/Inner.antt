@@ -6,4 +6,4 @@ pub mod Iterates
 pub mod Plains
 pub mod Reaching
 pub mod Refusals
-pub mod Running
+pub mod Works

@@ -1,1 +1,5 @@
+pub mod Board
 pub mod Inner
+pub mod Modes
+pub mod Standing
+pub mod Tally

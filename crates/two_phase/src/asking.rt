@@ -1,9 +1,11 @@
 //! The start of a run, and what its grounds ask of a round of pricing.
-ghost use Rattle.std.specs.Prelude.{◌≡◌, ◌≤◌, ℕ, List, [], None, length, IfErr, IfOk, IfSome, OnErr, OnOk};
-ghost use Rattle.lp_run.specs.Instance.{IsWellFormed};
+ghost use Rattle.std.specs.Prelude.{◌≡◌, ◌+◌, ◌≤◌, ℕ, List, [], None, length, IfErr, IfOk, IfSome, OnErr, OnOk};
+ghost use Rattle.lp_run.specs.Instance.{IsWellFormed, row_count};
 ghost use Rattle.lp_run.specs.Listing.{StartFits};
 ghost use Rattle.lp_model.specs.declared.Entry.{Entry as LogEntry};
+ghost use Rattle.bland_ratio.specs.Entries.{stored_entries};
 ghost use Rattle.bland_ratio.specs.Pricing.{IsExactTicket};
+ghost use Rattle.factor_run.specs.Bound.{making_work};
 
 use crate::ground::Ground;
 use crate::iterate::Iterate;
@@ -20,7 +22,10 @@ use std::thread::Threads;
 
 impl Ground {
     ghost use Rattle.two_phase.specs.Inner.Grounds.{GivesUp, GroundStands, HasCause, IsPlain, ground_state};
-    ghost use Rattle.two_phase.specs.Inner.Plains.{IsRunFault};
+    ghost use Rattle.two_phase.specs.Inner.Reaching.{IsUnstarted};
+    ghost use Rattle.two_phase.specs.Inner.Works.{ground_owed};
+    ghost use Rattle.two_phase.specs.Modes.{IsPaidBy, mode_of};
+    ghost use Rattle.two_phase.specs.Inner.Plains.{HasRisen, IsRunFault, OverflowsFor};
 
     // The ticket of a state over factors, where there are; none where a price does not fit.
     fn ask_factors<A: Arith>(
@@ -33,6 +38,7 @@ impl Ground {
         requires { GroundStands (A.width arith.old) inst.now log.now self.old }
         ensures exact { IfOk result (λ asked. IfSome asked (IsExactTicket inst.now (ground_state self.new))) }
         ensures number { IfOk result (λ asked. IfSome asked (λ ticket. ticket.number ≡ length log.now)) }
+        ensures paid { IfOk result (λ asked. IfSome asked (λ ticket. IsPaidBy (mode_of self.new) ticket.pay)) }
         ensures stands { GroundStands (A.width arith.old) inst.now log.now self.new }
         ensures given_up { GivesUp (A.width arith.old) inst.now log.now self.old self.new }
         ensures plain_stays { IsPlain self.old → IsPlain self.new }
@@ -40,6 +46,10 @@ impl Ground {
         ensures state { ground_state self.new ≡ ground_state self.old }
         ensures width { A.width arith.new ≡ A.width arith.old }
         ensures unfit { A.unfit_count arith.old ≤ A.unfit_count arith.new }
+        ensures fits { IfOk result (λ asked. IfSome asked (λ _. A.unfit_count arith.new ≡ A.unfit_count arith.old)) }
+        ensures fitted { OnErr result (A.unfit_count arith.new ≡ A.unfit_count arith.old) }
+        ensures owed { IfOk result (λ asked. IfSome asked (λ _. A.work_count arith.new ≤ A.work_count arith.old + ground_owed (row_count inst.now) self.old)) }
+        ensures unowed { IfOk result (λ asked. IfSome asked (λ _. ground_owed (row_count inst.now) self.new ≡ 0)) }
     {
         match self {
             Ground::Plain(_) => Ok(None),
@@ -58,6 +68,7 @@ impl Ground {
         requires plain { IsPlain self.now }
         requires stands { (w : ℕ) × (log : List LogEntry) × GroundStands w inst.now log self.now }
         ensures exact { IfOk result (IsExactTicket inst.now (ground_state self.now)) }
+        ensures paid { IfOk result (λ ticket. IsPaidBy (mode_of self.now) ticket.pay) }
         ensures number { (w : ℕ) (log : List LogEntry) → GroundStands w inst.now log self.now → IfOk result (λ ticket. ticket.number ≡ length log) }
     {
         match self {
@@ -85,6 +96,7 @@ impl Ground {
         requires stands { GroundStands (A.width arith.old) inst.now log.now self.old }
         ensures exact { IfOk result (IsExactTicket inst.now (ground_state self.new)) }
         ensures number { IfOk result (λ ticket. ticket.number ≡ length log.now) }
+        ensures paid { IfOk result (λ ticket. IsPaidBy (mode_of self.new) ticket.pay) }
         ensures stands { GroundStands (A.width arith.old) inst.now log.now self.new }
         ensures given_up { GivesUp (A.width arith.old) inst.now log.now self.old self.new }
         ensures plain_stays { IsPlain self.old → IsPlain self.new }
@@ -92,6 +104,12 @@ impl Ground {
         ensures fault { IfErr result (IsRunFault (A.width arith.old) inst.now log.now) }
         ensures width { A.width arith.new ≡ A.width arith.old }
         ensures unfit { A.unfit_count arith.old ≤ A.unfit_count arith.new }
+        ensures fits { (HasCause (A.width arith.old) inst.now log.now self.old → ⊥) → A.unfit_count arith.new ≡ A.unfit_count arith.old }
+        ensures owed { (HasCause (A.width arith.old) inst.now log.now self.old → ⊥)
+            → IfOk result (λ _. A.work_count arith.new ≤ A.work_count arith.old + ground_owed (row_count inst.now) self.old) }
+        ensures unowed { (HasCause (A.width arith.old) inst.now log.now self.old → ⊥) → IfOk result (λ _. ground_owed (row_count inst.now) self.new ≡ 0) }
+        ensures cause { IfErr result (OverflowsFor (HasCause (A.width arith.old) inst.now log.now self.old)) }
+        ensures rose { IfErr result (HasRisen (A.unfit_count arith.old) (A.unfit_count arith.new)) }
     {
         if let Some(ticket) = self.ask_factors(alloc, inst, log, arith)? {
             return Ok(ticket);
@@ -116,6 +134,11 @@ impl Ground {
         ensures fault { IfErr result (IsRunFault (A.width arith.old) inst.now []) }
         ensures width { A.width arith.new ≡ A.width arith.old }
         ensures unfit { A.unfit_count arith.old ≤ A.unfit_count arith.new }
+        ensures factors { (IsUnstarted (A.width arith.old) inst.now → ⊥) → IfOk result (λ begun. IsPlain begun → ⊥) }
+        ensures memory { (IsUnstarted (A.width arith.old) inst.now → ⊥) → IfErr result (λ fault. fault ≡ TableFault.Memory) }
+        ensures fits { (IsUnstarted (A.width arith.old) inst.now → ⊥) → A.unfit_count arith.new ≡ A.unfit_count arith.old }
+        ensures work { (IsUnstarted (A.width arith.old) inst.now → ⊥) → A.work_count arith.new ≤ A.work_count arith.old + (stored_entries inst.now + making_work inst.now) }
+        ensures rose { IfErr result (HasRisen (A.unfit_count arith.old) (A.unfit_count arith.new)) }
     {
         match Iterate::start(alloc, inst, arith) {
             Ok(iterate) => Ok(Ground::Factors(iterate)),

@@ -1,7 +1,7 @@
 //! The columns of the equations.
 ghost use Rattle.std.specs.Prelude.{◌≡◌, ◌<◌, [], ◌∷◌, IfOk};
-ghost use Rattle.lp_run.specs.Instance.{column_count, column_kind, row_count};
-ghost use Rattle.bland_ratio.specs.Pricing.{kind_entries};
+ghost use Rattle.lp_run.specs.Instance.{column_count};
+ghost use Rattle.two_phase.specs.Inner.Factoring.{sparse_column};
 
 use exact_frac::Frac;
 use instance_model::Instance;
@@ -24,7 +24,7 @@ fn unit(alloc: Global, rows: usize, row: usize, value: Frac) -> Result<SparseCol
 #[tactic(auto, using(exact_frac::specs::Constants::constants))]
 pub fn column_of(alloc: Global, inst: &Instance, q: usize) -> Result<SparseCol<Frac>, Memory>
     requires { q < column_count inst.now }
-    ensures { IfOk result (λ c. c ≡ record { length = row_count inst.now; pairs = kind_entries inst.now (column_kind inst.now q) }) }
+    ensures { IfOk result (λ c. c ≡ sparse_column inst.now q) }
 {
     match inst.kind(q) {
         ColumnKind::Structural(k) => inst.entries(k).copy(),

@@ -1,10 +1,11 @@
 //! The factors of a basis: how they are made, and how they follow an exchange.
-ghost use Rattle.std.specs.Prelude.{◌≡◌, ◌+◌, ◌*◌, ◌<◌, ◌≤◌, ℕ, Some, None, length, slice_set, IfErr, IfOk, OnErr, OnOk};
+ghost use Rattle.std.specs.Prelude.{◌≡◌, ◌+◌, ◌*◌, ◌<◌, ◌≤◌, ℕ, Some, None, length, map, slice_set, IfErr, IfOk, OnErr, OnOk};
+ghost use Rattle.std.specs.List.{All};
 ghost use Rattle.lp_model.specs.declared.Side.{Side as End};
 ghost use Rattle.lp_model.specs.declared.Entry.TheVariants.{Swap};
 ghost use Rattle.rational.specs.Rational.{ℚ};
 ghost use Rattle.rational.specs.Worked.{settle};
-ghost use Rattle.lp_run.specs.Instance.{row_count};
+ghost use Rattle.lp_run.specs.Instance.{column_count, row_count};
 ghost use Rattle.lp_run.specs.Solution.{basis_entry};
 ghost use Rattle.lp_run.specs.State.{State as Position, after};
 ghost use Rattle.factor_model.specs.Eta.{apply};
@@ -14,14 +15,17 @@ ghost use Rattle.factor_model.specs.Update.{HasPivot, with_column};
 ghost use Rattle.factor_model.specs.Vectors.{vector};
 ghost use Rattle.factor_run.specs.Built.{entering_column, exchanged, made_anew};
 ghost use Rattle.ftran_btran.specs.Kept.{size};
-ghost use Rattle.two_phase.specs.Inner.Factoring.{FactorsFrom, IsBasis, follow_work};
+ghost use Rattle.two_phase.specs.Inner.Factoring.{FactorsFrom, IsBasis, follow_work, sparse_column};
 ghost use Rattle.two_phase.specs.Inner.Refusals.{Explains, count_after};
 
+use crate::columns::column_of;
 use crate::refusal::Refusal;
 use exact_frac::{Arith, Frac};
 use ft_update::UpdateFault;
-use ftran_btran::Factors;
+use ftran_btran::{Factors, LuFault};
 use instance_model::{Instance, State};
+use no_memory::Memory;
+use sparse_cols::SparseCol;
 use std::alloc::Global;
 
 // How many updates factors have before they are made anew.
@@ -42,8 +46,29 @@ pub fn factors_of<A: Arith>(
     ensures unfit { A.unfit_count arith.new ≡ count_after (A.unfit_count arith.old) result }
     ensures work { A.work_count arith.new ≤ A.work_count arith.old + row_count inst.now * row_count inst.now * row_count inst.now }
 {
-    let _ = (alloc, inst.rows(), basis.len(), number, arith.width());
-    Err(Refusal::Memory)
+    let columns = basis_columns(alloc, inst, basis)?;
+    match Factors::make(alloc, inst.rows(), &columns, number, arith) {
+        Ok(factors) => Ok(factors),
+        Err(LuFault::Memory) => Err(Refusal::Memory),
+        Err(LuFault::Unfit) => Err(Refusal::Unfit),
+        Err(LuFault::Singular(_)) => unreachable!(),
+    }
+}
+
+// The columns of these numbers.
+fn basis_columns(
+    alloc: Global,
+    inst: &Instance,
+    basis: &[u32],
+) -> Result<Vec<SparseCol<Frac>>, Memory>
+    requires { All (λ q. q < column_count inst.now) basis.now }
+    ensures { IfOk result (λ columns. columns.items ≡ map (sparse_column inst.now) basis.now) }
+{
+    let mut columns = Vec::with_capacity(alloc, basis.len())?;
+    for q in basis {
+        columns.push(column_of(alloc, inst, *q as usize)?)?;
+    }
+    Ok(columns)
 }
 
 // The factors after an update in position `p`.
@@ -88,7 +113,8 @@ fn make_after<A: Arith>(
 ) -> Result<Factors, Refusal>
     requires position { p < length state.now.basis }
     requires basis { (end : End) × IsBasis inst.now (after state.now (Swap q p end)) (slice_set state.now.basis p q) }
-    ensures made { (end : End) → IsBasis inst.now (after state.now (Swap q p end)) (slice_set state.now.basis p q) → IfOk result (FactorsFrom (A.width arith.old) inst.now (after state.now (Swap q p end)) number) }
+    ensures made { (end : End) → IsBasis inst.now (after state.now (Swap q p end)) (slice_set state.now.basis p q)
+        → IfOk result (FactorsFrom (A.width arith.old) inst.now (after state.now (Swap q p end)) number) }
     ensures refusal { (end : End) → IsBasis inst.now (after state.now (Swap q p end)) (slice_set state.now.basis p q)
         → IfErr result (Explains (settle (A.width arith.old) (made_anew inst.now (after state.now (Swap q p end)) number) ≡ None)) }
     ensures width { A.width arith.new ≡ A.width arith.old }

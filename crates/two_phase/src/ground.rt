@@ -1,7 +1,7 @@
 //! What a run stands on: factors of its state's basis, or, where they are given up, the plain table.
-ghost use Rattle.std.specs.Prelude.{◌≡◌, ◌≤◌, ◌↔◌, ℕ, None, IsTrue, true, false, IfErr, IfOk, IfSome, OnErr, OnOk};
+ghost use Rattle.std.specs.Prelude.{◌≡◌, ◌+◌, ◌≤◌, ◌↔◌, ℕ, None, IsTrue, true, false, IfErr, IfOk, IfSome, OnErr, OnOk};
 ghost use Rattle.lp_model.specs.Log.{moves};
-ghost use Rattle.lp_run.specs.Instance.{IsWellFormed};
+ghost use Rattle.lp_run.specs.Instance.{IsWellFormed, row_count};
 ghost use Rattle.lp_run.specs.Listing.{StartFits};
 ghost use Rattle.bland_ratio.specs.Pricing.{IsExactChoice};
 ghost use Rattle.plain_table.specs.Answers.{IsRunLog};
@@ -29,9 +29,10 @@ pub enum Ground {
 }
 
 impl Ground {
-    ghost use Rattle.two_phase.specs.Inner.Grounds.{GivesUp, GroundReaches, GroundStands, HasCause, IsPlain, ground_state};
-    ghost use Rattle.two_phase.specs.Inner.Plains.{IsRunFault};
+    ghost use Rattle.two_phase.specs.Inner.Grounds.{GivesUp, GroundReaches, GroundRescues, GroundStands, HasCause, IsPlain, ground_state};
+    ghost use Rattle.two_phase.specs.Inner.Plains.{HasRisen, IsRunFault, OverflowsFor};
     ghost use Rattle.two_phase.specs.Inner.Reaching.{IsChosen};
+    ghost use Rattle.two_phase.specs.Inner.Works.{ground_owed, ground_updates, move_work, reached_work};
 
     // Goes on over the factors, where there are; none where they meet a value that does not fit.
     fn over_factors<A: Arith>(
@@ -55,6 +56,11 @@ impl Ground {
         ensures state { IfOk result (λ tried. tried ≡ None → ground_state self.new ≡ ground_state self.old) }
         ensures width { A.width arith.new ≡ A.width arith.old }
         ensures unfit { A.unfit_count arith.old ≤ A.unfit_count arith.new }
+        ensures fits { IfOk result (λ tried. IfSome tried (λ _. A.unfit_count arith.new ≡ A.unfit_count arith.old)) }
+        ensures fitted { OnErr result (A.unfit_count arith.new ≡ A.unfit_count arith.old) }
+        ensures spent { IfOk result (λ tried. IfSome tried (λ reached. A.work_count arith.new ≤ A.work_count arith.old
+            + (ground_owed (row_count inst.now) self.old + (move_work (row_count inst.now) + reached_work (row_count inst.now) (ground_updates self.old) reached)))) }
+        ensures plain_stays { IsPlain self.old → IsPlain self.new }
     {
         match self {
             Ground::Plain(_) => Ok(None),
@@ -89,6 +95,7 @@ impl Ground {
         ensures kept { OnErr result (self.new ≡ self.old) }
         ensures width { A.width arith.new ≡ A.width arith.old }
         ensures unfit { A.unfit_count arith.old ≤ A.unfit_count arith.new }
+        ensures rose { IfErr result (HasRisen (A.unfit_count arith.old) (A.unfit_count arith.new)) }
     {
         match self {
             Ground::Plain(_) => Ok(()),
@@ -119,6 +126,8 @@ impl Ground {
         ensures fault { IfErr result (IsRunFault (A.width arith.old) inst.now log.old) }
         ensures width { A.width arith.new ≡ A.width arith.old }
         ensures unfit { A.unfit_count arith.old ≤ A.unfit_count arith.new }
+        ensures rose { IfErr result (HasRisen (A.unfit_count arith.old) (A.unfit_count arith.new)) }
+        ensures stays { IsPlain self.new }
     {
         match self {
             Ground::Plain(table) => advance_on(rt, inst, budget, log, table, arith),
@@ -155,6 +164,12 @@ impl Ground {
         ensures fault { IfErr result (IsRunFault (A.width arith.old) inst.now log.old) }
         ensures width { A.width arith.new ≡ A.width arith.old }
         ensures unfit { A.unfit_count arith.old ≤ A.unfit_count arith.new }
+        ensures fits { (HasCause (A.width arith.old) inst.now log.old self.old → ⊥) → A.unfit_count arith.new ≡ A.unfit_count arith.old }
+        ensures spent { (HasCause (A.width arith.old) inst.now log.old self.old → ⊥) → IfOk result (λ reached. A.work_count arith.new ≤ A.work_count arith.old
+            + (ground_owed (row_count inst.now) self.old + (move_work (row_count inst.now) + reached_work (row_count inst.now) (ground_updates self.old) reached))) }
+        ensures cause { IfErr result (OverflowsFor (HasCause (A.width arith.old) inst.now log.old self.old)) }
+        ensures rose { IfErr result (HasRisen (A.unfit_count arith.old) (A.unfit_count arith.new)) }
+        ensures plain_stays { IsPlain self.old → IsPlain self.new }
     {
         if let Some(reached) = self.over_factors(alloc, inst, budget, log, entering, arith)? {
             return Ok(reached);
@@ -196,14 +211,20 @@ impl Ground {
         requires exact { IsExactChoice (A.width arith.old) inst.now (ground_state self.old) choice.now }
         requires within { moves log.old ≤ budget }
         ensures reached { IfOk result (λ gone. IfSome gone (GroundReaches (A.width arith.old) inst.now budget log.old (ground_state self.old) log.new self.new)) }
-        ensures rescued { IfOk result (λ gone. gone ≡ None → (choice.now.unfit ≡ true) × (IsPlain self.old → ⊥) × IsPlain self.new × (log.new ≡ log.old)
-            × GroundStands (A.width arith.old) inst.now log.old self.new) }
+        ensures rescued { IfOk result (GroundRescues choice.now.unfit (A.width arith.old) inst.now log.old self.old log.new self.new) }
         ensures given_up { choice.now.unfit ≡ false → GivesUp (A.width arith.old) inst.now log.old self.old self.new }
         ensures log_kept { OnErr result (log.new ≡ log.old) }
         ensures stands { OnErr result (GroundStands (A.width arith.old) inst.now log.old self.new) }
         ensures fault { IfErr result (IsRunFault (A.width arith.old) inst.now log.old) }
         ensures width { A.width arith.new ≡ A.width arith.old }
         ensures unfit { A.unfit_count arith.old ≤ A.unfit_count arith.new }
+        ensures fits { choice.now.unfit ≡ false → (HasCause (A.width arith.old) inst.now log.old self.old → ⊥) → A.unfit_count arith.new ≡ A.unfit_count arith.old }
+        ensures spent { choice.now.unfit ≡ false → (HasCause (A.width arith.old) inst.now log.old self.old → ⊥)
+            → IfOk result (λ gone. IfSome gone (λ reached. A.work_count arith.new ≤ A.work_count arith.old
+            + (ground_owed (row_count inst.now) self.old + (move_work (row_count inst.now) + reached_work (row_count inst.now) (ground_updates self.old) reached)))) }
+        ensures cause { choice.now.unfit ≡ false → IfErr result (OverflowsFor (HasCause (A.width arith.old) inst.now log.old self.old)) }
+        ensures rose { IfErr result (HasRisen (A.unfit_count arith.old) (A.unfit_count arith.new)) }
+        ensures plain_stays { IsPlain self.old → IsPlain self.new }
     {
         if choice.unfit {
             if self.is_plain() {

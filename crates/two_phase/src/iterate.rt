@@ -6,7 +6,9 @@ ghost use Rattle.lp_model.specs.declared.Entry.{Entry as LogEntry};
 ghost use Rattle.lp_model.specs.declared.Entry.TheVariants.{Flip, Swap, Turn};
 ghost use Rattle.lp_model.specs.declared.Place.{Place};
 ghost use Rattle.bland_ratio.specs.declared.ratio_test.Leave.TheVariants as leave;
+ghost use Rattle.bland_ratio.specs.Entries.{stored_entries};
 ghost use Rattle.bland_ratio.specs.Leave.{IsBasisOf};
+ghost use Rattle.factor_run.specs.Bound.{making_work};
 ghost use Rattle.instance_model.specs.Entries.{CanTake};
 ghost use Rattle.lp_run.specs.Listing.{StartFits, first_unfit};
 ghost use Rattle.lp_model.specs.declared.Side.{Side as End};
@@ -29,7 +31,7 @@ ghost use Rattle.two_phase.specs.Inner.Refusals.{Explains, count_after};
 
 use crate::decision::{Decision, decide};
 use crate::factoring::{factors_of, follow};
-use crate::reached::{Reached, Stop};
+use crate::reached::Reached;
 use crate::refusal::Refusal;
 use crate::solves::{solve_column, solve_prices};
 use bland_ratio::Leave;
@@ -40,6 +42,7 @@ use instance_model::{Instance, State};
 use lp_model::{Entry, Phase, Side};
 use no_memory::Memory;
 use plain_table::{artificials_are_zero, move_values, rest_of, work_start_values};
+use run_outcome::Stop;
 use std::alloc::{AllocError, Global};
 
 /// A state of the run, with factors of its basis, its basic values, and its prices where they are worked.
@@ -60,6 +63,7 @@ pub struct Iterate {
 impl Iterate {
     ghost use Rattle.two_phase.specs.Inner.Iterates.{AreWorked, HasFollowed, IsEntered, IsIterate, IsIterateOf, IsKept, IsSpared, IsTaken};
     ghost use Rattle.two_phase.specs.Inner.Reaching.{IsChosen, IsUnstarted, Reaches};
+    ghost use Rattle.two_phase.specs.Inner.Works.{move_work, owed, reached_work, solve_most};
 
     /// Works the prices, where they are not yet worked.
     pub fn price<A: Arith>(&mut self, inst: &Instance, arith: &mut A) -> Result<(), Unfit>
@@ -71,10 +75,12 @@ impl Iterate {
         ensures width { A.width arith.new ≡ A.width arith.old }
         ensures unfit { A.unfit_count arith.new ≡ unfit_after (A.unfit_count arith.old) result }
         ensures work { A.work_count arith.new ≤ A.work_count arith.old + (stored self.old.factors.etas + (row_count inst.now * row_count inst.now + row_count inst.now)) }
+        ensures owed { A.work_count arith.new ≤ A.work_count arith.old + owed (row_count inst.now) self.old }
     {
         if self.is_priced {
             return Ok(());
         }
+        let _ = self.factors.updates();
         solve_prices(
             inst,
             &self.state,
@@ -105,11 +111,14 @@ impl Iterate {
         ensures prices { self.new.prices.items ≡ self.old.prices.items }
         ensures priced { self.new.is_priced ≡ true }
         ensures entered { IfOk result (IsEntered inst.now q self.new) }
-        ensures refusal { (log : List LogEntry) → IsIterate (A.width arith.old) inst.now log self.old → IfErr result (Explains (Cause (A.width arith.old) inst.now (length log) self.old.state self.old.factors)) }
+        ensures refusal { (log : List LogEntry) → IsIterate (A.width arith.old) inst.now log self.old
+            → IfErr result (Explains (Cause (A.width arith.old) inst.now (length log) self.old.state self.old.factors)) }
         ensures width { A.width arith.new ≡ A.width arith.old }
         ensures unfit { A.unfit_count arith.new ≡ count_after (A.unfit_count arith.old) result }
         ensures work { A.work_count arith.new ≤ A.work_count arith.old + (stored self.old.factors.etas + (row_count inst.now * row_count inst.now + 3 * row_count inst.now)) }
+        ensures solve { A.work_count arith.new ≤ A.work_count arith.old + (solve_most (row_count inst.now) + 2 * row_count inst.now) }
     {
+        let _ = self.factors.updates();
         solve_column(
             alloc,
             inst,
@@ -147,7 +156,8 @@ impl Iterate {
         requires spare { length self.old.spare.items ≡ length self.old.values.items }
         requires few { length self.old.values.items < 2 ^ 32 }
         ensures worked { OnOk result (AreWorked inst.now position q down ratio self.old self.new) }
-        ensures unfit_value { OnErr result ((here : Place) × (first_unfit (A.width arith.old) (values_listing number position down (rest inst.now self.old.state q) ratio self.old.values.items self.old.alpha.items) ≡ Some here)) }
+        ensures unfit_value { OnErr result ((here : Place) × (first_unfit (A.width arith.old)
+            (values_listing number position down (rest inst.now self.old.state q) ratio self.old.values.items self.old.alpha.items) ≡ Some here)) }
         ensures spared { IsSpared self.old self.new }
         ensures width { A.width arith.new ≡ A.width arith.old }
         ensures unfit { A.unfit_count arith.new ≡ unfit_after (A.unfit_count arith.old) result }
@@ -405,6 +415,7 @@ impl Iterate {
         ensures width { A.width arith.new ≡ A.width arith.old }
         ensures unfit { A.unfit_count arith.new ≡ count_after (A.unfit_count arith.old) result }
         ensures work { A.work_count arith.new ≤ A.work_count arith.old + (row_count inst.now + follow_work (row_count inst.now) self.old.factors.updates) }
+        ensures spent { IfOk result (λ reached. A.work_count arith.new ≤ A.work_count arith.old + (row_count inst.now + reached_work (row_count inst.now) self.old.factors.updates reached)) }
     {
         if log.moves() == budget {
             return Ok(Reached::Spent);
@@ -437,6 +448,8 @@ impl Iterate {
         ensures unfit { A.unfit_count arith.new ≡ count_after (A.unfit_count arith.old) result }
         ensures work { A.work_count arith.new ≤ A.work_count arith.old
             + (stored self.old.factors.etas + (row_count inst.now * row_count inst.now + 4 * row_count inst.now) + follow_work (row_count inst.now) self.old.factors.updates) }
+        ensures spent { IfOk result (λ reached. A.work_count arith.new ≤ A.work_count arith.old
+            + (move_work (row_count inst.now) + reached_work (row_count inst.now) self.old.factors.updates reached)) }
     {
         let Decision { down, leave } = self.enter(alloc, inst, q, arith)?;
         match leave {
@@ -476,6 +489,8 @@ impl Iterate {
         ensures unfit { A.unfit_count arith.new ≡ count_after (A.unfit_count arith.old) result }
         ensures work { A.work_count arith.new ≤ A.work_count arith.old
             + (2 * stored self.old.factors.etas + (2 * (row_count inst.now * row_count inst.now) + 5 * row_count inst.now) + follow_work (row_count inst.now) self.old.factors.updates) }
+        ensures spent { IfOk result (λ reached. A.work_count arith.new ≤ A.work_count arith.old
+            + (owed (row_count inst.now) self.old + (move_work (row_count inst.now) + reached_work (row_count inst.now) self.old.factors.updates reached))) }
     {
         self.price(inst, arith)?;
         match entering {
@@ -500,6 +515,7 @@ impl Iterate {
         ensures refusal { IfErr result (Explains (IsUnstarted (A.width arith.old) inst.now)) }
         ensures width { A.width arith.new ≡ A.width arith.old }
         ensures unfit { A.unfit_count arith.new ≡ count_after (A.unfit_count arith.old) result }
+        ensures work { A.work_count arith.new ≤ A.work_count arith.old + (stored_entries inst.now + making_work inst.now) }
     {
         let values = start_values(alloc, inst, arith)?;
         let state = inst.start(alloc)?;
@@ -556,6 +572,7 @@ fn start_values<A: Arith>(
     ensures refusal { IfErr result (Explains ((here : Place) × (first_unfit (A.width arith.old) (start_values_listing inst.now) ≡ Some here))) }
     ensures width { A.width arith.new ≡ A.width arith.old }
     ensures unfit { A.unfit_count arith.new ≡ count_after (A.unfit_count arith.old) result }
+    ensures work { A.work_count arith.new ≤ A.work_count arith.old + stored_entries inst.now }
 {
     let mut values = zeros(alloc, inst.rows())?;
     match work_start_values(inst, arith, &mut values) {

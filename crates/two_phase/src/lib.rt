@@ -1,29 +1,31 @@
-//! The run of an instance over factors of its bases, with the plain table where they meet a value that does not fit.
+//! The board of a run over factors of its bases, with the plain table where they meet a value that does not fit.
 //!
-//! **Model.** An [`Iterate`] is a state of the run with factors of its basis, those that are built along the log, with
-//! its basic values and, where they are worked, its prices (`IsIterate`). A [`Ground`] is an iterate or a plain table;
-//! both stand at the state that the log reaches (`GroundStands`). A step comes to an entry, to an end ([`Stop`]), or to
-//! a budget that is spent ([`Reached`]).
+//! **Model.** A [`Board`] is a run with the budget of its moves, its arithmetic and its log. It stands on a [`Ground`]: an
+//! [`Iterate`], a state of the run with factors of its basis, its basic values and, where they are worked, its prices
+//! (`IsIterate`), or a plain table ([`Mode`]). `BoardStands` in `specs/Board.antt` holds between any two calls: the log is
+//! the first entries of the run within the budget, the ground is of the state that it reaches, and the [`Standing`] is that
+//! state's. `HasFactors` says what the factors are: of the state's basis, with at most 64 updates since a number not above
+//! the board's; `AreBuilt` that they are the ones built along the log.
 //!
-//! **Contract.** [`Iterate::start`] makes the iterate of the start. [`prices_ticket`] and [`costs_ticket`] ask for a
-//! choice at a state, with its prices or its reduced costs, and are exact for it. [`Iterate::advance`] takes in the next
-//! entry by such a choice, or finds the end (`Reaches`): it works the prices by one solve for a row, the entering column
-//! by one for a column, the ratio test and the basic values, and updates the factors or, after 64 updates, makes them
-//! anew. It is refused for want of memory, or for a cause (`Cause` of `factor_run`), and then the iterate stands at the
-//! log as before. [`Ground::advance`] gives the factors up there, makes the plain table along the log, and goes on over
-//! it; an overflow has the place of the first value of the run that does not fit (`IsRunFault`). [`Ground::ticket`] and
-//! [`Ground::record`] are a round: what is asked at a state, and what follows from an exact choice, which where it is
-//! unfit gives the factors up too. [`run`] goes on by rounds to the end of the run (`Finishes`); it ends, since a run is
-//! short (Bland 1977) and factors are given up once.
+//! **Contract.** [`Board::new`] makes the board of the start. [`Board::ticket`] asks for a choice at its state, with its
+//! prices or its reduced costs, and is exact for it; [`Board::record`] takes in what follows from an exact choice
+//! (`Records`): the next entry, or the end; a swap after 64 updates makes the factors anew (`FollowsEntry`).
+//! [`Board::close`] gives the outcome of a run that has ended, with the log. Factors are given up for a cause alone
+//! (`HasGivenUp`, `Cause` of `factor_run`) or at an unfit choice; the plain table is then made along the log, and goes on.
+//! Each refusal has its cause (`IsTicketCause`, `IsRecordCause`, `IsClosingCause`): an overflow has the place of the first
+//! value of the run that does not fit, or at the close of the first sum, and the count of unfit results has risen.
+//! [`Ground::ticket`] and [`Ground::record`] are the same for a log that the caller keeps, and [`Iterate::advance`] is a
+//! step over factors alone (`Reaches`).
 //!
 //! **Work.** Of m rows, a step over factors works at most 2m² + 5m products and quotients, twice the entries of the
 //! factors' operations, and m² for an update, or m³ where the factors are made anew.
 //!
 //! It stands on `ftran_btran` for factors, on `factor_run` for what they are along a run, on `bland_ratio` for pricing
-//! and the ratio test, and on `plain_table`.
+//! and the ratio test, on `plain_table`, and on `run_outcome` for outcomes.
 #![tactic(auto)]
 
 mod asking;
+mod board;
 mod columns;
 mod decision;
 mod factoring;
@@ -32,13 +34,15 @@ mod iterate;
 mod plain;
 mod reached;
 mod refusal;
-mod running;
+mod shown;
 mod solves;
+mod standing;
 mod tickets;
 
+pub use board::{Board, CloseFault, Closed, NewFault};
 pub use ground::Ground;
 pub use iterate::Iterate;
-pub use reached::{Reached, Stop};
+pub use reached::Reached;
 pub use refusal::Refusal;
-pub use running::{Finish, run};
+pub use standing::{BoardFault, Course, Mode, Recorded, Standing};
 pub use tickets::{costs_ticket, prices_ticket};

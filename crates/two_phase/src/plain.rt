@@ -6,14 +6,15 @@ ghost use Rattle.lp_run.specs.Listing.{StartFits};
 ghost use Rattle.lp_run.specs.Step.{IsNext};
 ghost use Rattle.plain_table.specs.Answers.{IsRunLog};
 ghost use Rattle.plain_table.specs.Next.{EndsBy, IsTableOf};
-ghost use Rattle.two_phase.specs.Inner.Plains.{IsFitted, IsRunFault, TableReaches, TableStops};
+ghost use Rattle.two_phase.specs.Inner.Plains.{HasRisen, IsFitted, IsRunFault, TableReaches, TableStops};
 
-use crate::reached::{Reached, Stop};
+use crate::reached::Reached;
 use deck_model::Log;
 use exact_frac::Arith;
 use instance_model::Instance;
 use lp_model::Entry;
 use plain_table::{End, Next, Table, TableFault, falls};
+use run_outcome::Stop;
 use std::alloc::Global;
 use std::thread::Threads;
 
@@ -32,6 +33,7 @@ pub fn replay<R: Threads + Sync, A: Arith>(
     ensures fault { IfErr result (IsRunFault (A.width arith.old) inst.now log.now) }
     ensures width { A.width arith.new ≡ A.width arith.old }
     ensures unfit { A.unfit_count arith.old ≤ A.unfit_count arith.new }
+    ensures rose { IfErr result (HasRisen (A.unfit_count arith.old) (A.unfit_count arith.new)) }
 {
     match Table::replay(rt, alloc, inst, log, arith) {
         Ok(table) => Ok(table),
@@ -83,6 +85,7 @@ fn take_on<R: Threads + Sync, A: Arith>(
     ensures fault { IfErr result (IsRunFault (A.width arith.old) inst.now log.old) }
     ensures width { A.width arith.new ≡ A.width arith.old }
     ensures unfit { A.unfit_count arith.old ≤ A.unfit_count arith.new }
+    ensures rose { IfErr result (HasRisen (A.unfit_count arith.old) (A.unfit_count arith.new)) }
 {
     if is_move(entry) && log.moves() == budget {
         return Ok(Reached::Spent);
@@ -122,6 +125,7 @@ pub fn advance_on<R: Threads + Sync, A: Arith>(
     ensures fault { IfErr result (IsRunFault (A.width arith.old) inst.now log.old) }
     ensures width { A.width arith.new ≡ A.width arith.old }
     ensures unfit { A.unfit_count arith.old ≤ A.unfit_count arith.new }
+    ensures rose { IfErr result (HasRisen (A.unfit_count arith.old) (A.unfit_count arith.new)) }
 {
     match table.next(inst, arith) {
         Ok(Next::Entry(entry)) => take_on(rt, inst, budget, log, entry, table, arith),

@@ -1,17 +1,7 @@
 //! What a step of a run comes to.
 
 use lp_model::Entry;
-
-/// How a run ends.
-#[derive(Clone, Copy, Debug)]
-pub enum Stop {
-    /// An optimum: phase two, and no column is eligible.
-    Optimal,
-    /// No feasible point: phase one, no column is eligible, and some artificial is not 0.
-    Infeasible,
-    /// The step of the least eligible column has no limit: the column, and whether it falls.
-    Free(u32, bool),
-}
+use run_outcome::Stop;
 
 /// What a step of a run comes to.
 #[derive(Clone, Copy, Debug)]

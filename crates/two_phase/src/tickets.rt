@@ -1,5 +1,5 @@
 //! What a round of pricing is asked at a state.
-ghost use Rattle.std.specs.Prelude.{◌≡◌, ◌+◌, ◌*◌, ◌≤◌, List, None, IfErr, IfOk};
+ghost use Rattle.std.specs.Prelude.{◌≡◌, ◌+◌, ◌*◌, ◌≤◌, List, None, true, IfErr, IfOk};
 ghost use Rattle.rational.specs.Worked.{settle};
 ghost use Rattle.lp_model.specs.declared.Entry.{Entry as LogEntry};
 ghost use Rattle.lp_run.specs.Instance.{row_count};
@@ -11,6 +11,7 @@ ghost use Rattle.factor_run.specs.Calm.{basic_costs};
 ghost use Rattle.plain_table.specs.Next.{IsTableOf};
 ghost use Rattle.two_phase.specs.Inner.Iterates.{IsIterate, IsIterateOf, IsKept};
 ghost use Rattle.two_phase.specs.Inner.Refusals.{Explains, count_after};
+ghost use Rattle.two_phase.specs.Inner.Works.{owed};
 
 use crate::iterate::Iterate;
 use crate::refusal::Refusal;
@@ -39,6 +40,8 @@ pub fn prices_ticket<A: Arith>(
     ensures width { A.width arith.new ≡ A.width arith.old }
     ensures unfit { A.unfit_count arith.new ≡ count_after (A.unfit_count arith.old) result }
     ensures work { A.work_count arith.new ≤ A.work_count arith.old + (stored iterate.old.factors.etas + (row_count inst.now * row_count inst.now + row_count inst.now)) }
+    ensures owed { A.work_count arith.new ≤ A.work_count arith.old + owed (row_count inst.now) iterate.old }
+    ensures priced { IfOk result (λ _. iterate.new.is_priced ≡ true) }
 {
     iterate.price(inst, arith)?;
     let prices = Vec::from_slice(alloc, &iterate.prices)?;

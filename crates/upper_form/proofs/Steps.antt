@@ -1,24 +1,47 @@
 -- One position's step of each solve.
-use Rattle.std.proofs.Common.{◌≡◌, ℕ, ◌<◌, List, [], length, get_or, set, map, reverse, replicate, Some, None, Result, Ok, Err, sym, ◌∙◌, ap, arith}
-use Rattle.std.proofs.lemmas.List.{get_or_default, ext_get_or, length-replicate, get_or-replicate}
+use Rattle.std.proofs.Common.{◌≡◌, ℕ, ◌^◌, ◌<◌, ◌≤◌, List, [], length, get_or, set, map, reverse, replicate, Some, None, Result, Ok, Err, refl, sym, subst, ◌∙◌, ap, arith}
+use Rattle.std.proofs.Math.Pow.{pow-lt}
+use Rattle.std.proofs.lemmas.List.{set-get_or, get_or_default, ext_get_or, length-replicate, get_or-replicate}
 use Rattle.std.specs.List.{range_with_len}
 use Rattle.std.proofs.lemmas.List.FromFn.{get_or-map-range_with_len, length-map-range_with_len}
-use Rattle.rational.specs.Rational.{ℚ, zero_ℚ, ◌/ℚ◌}
+use Rattle.rational.specs.Rational.{ℚ, zero_ℚ, inverse, ◌/ℚ◌}
 use Rattle.rational.specs.Width.{FitsWidth}
 use Rattle.rational.specs.Sum.{at}
 use Rattle.rational.specs.Worked.{done, work, settle, quotient}
 use Rattle.rational.specs.Lines.{gather, subtract}
+use Rattle.rational.proofs.FieldLaws.{/ℚ_is}
+use Rattle.rational.proofs.RationalRing.{ring_ℚ}
+use Rattle.rational.proofs.Ring.{◌≐◌, ◌⊗◌, 𝟘}
 use Rattle.rational.proofs.Settling.{settle-done, settle-work, settle-work_none, settle-bind, settle-bind_none}
 use Rattle.exact_frac.specs.declared.unfit.Unfit.{Unfit}
 use Rattle.exact_frac.specs.Exact.{Exact}
 use Rattle.exact_frac.specs.Settles.{Leaves, Settles}
 use Rattle.exact_frac.proofs.Working.{settles-exact}
 use Rattle.sparse_cols.specs.Sparse.{Sparse}
+use Rattle.sparse_steps.proofs.Steps.{subtract_none}
 use Rattle.factor_model.specs.Upper.{Triangle, column, row_of, by_position, solve, solve_rows, diagonal, place_one, solve_one, back_item}
 
 -- a column that is read is the form's
 pub column_read : (u : Triangle) (p : ℕ) (x : Sparse ℚ) → p < length u.columns → x ≡ get_or u.columns p x → x.pairs ≡ column u p
 column_read u p x lt e = ap (λ (c : Sparse ℚ). c.pairs) (e ∙ get_or_default u.columns p x (record { length = 0; pairs = [] }) lt)
+
+-- 0 by any number is 0, which fits each width
+zero_by : (d : ℚ) → zero_ℚ /ℚ d ≡ zero_ℚ
+zero_by d = /ℚ_is zero_ℚ d ∙ ring_ℚ 1 (λ x. 𝟘 ⊗ x ≐ 𝟘) tt (inverse d)
+
+zero_fits : (w : ℕ) → 1 ≤ w → FitsWidth w zero_ℚ
+unfolding zero_ℚ
+zero_fits w wide = let more : 2 ^ 0 < 2 ^ w = pow-lt wide in record { numerator_below = omega (arith, more); denominator_below = omega (arith, more) }
+
+module _ (w : ℕ) (wide : 1 ≤ w) (item d : ℚ) (none : item ≡ zero_ℚ) where
+  by_none : item /ℚ d ≡ zero_ℚ
+  by_none = ap (λ a. a /ℚ d) none ∙ zero_by d
+
+  by_none-fits : FitsWidth w (item /ℚ d)
+  by_none-fits = subst (FitsWidth w) (sym by_none) (zero_fits w wide)
+
+  pub quotient-none : settle w (work (item /ℚ d)) ≡ Some item
+  quotient-none = settle-work w (item /ℚ d) by_none-fits ∙ ap Some (by_none ∙ sym none)
 
 module _ (w : ℕ) (u : Triangle) (v : List ℚ) (p : ℕ) (x : ℚ) (row : ℕ) (stored : List (ℕ × ℚ)) (same_row : row ≡ row_of u p) (same : stored ≡ column u p) where
   parts : settle w (subtract (row_of u p) x v (column u p)) ≡ settle w (subtract row x v stored)
@@ -58,6 +81,15 @@ module _ (w : ℕ) (u : Triangle) (v : List ℚ) (p : ℕ) (item : ℚ) (same : 
         settle-bind_none w (work (at v (row_of u p) /ℚ diagonal u p)) (place_one u v p)
         (ap (λ a. settle w (work a)) quotient_same ∙ settle-work_none w (item /ℚ d) unfit)
 
+  -- where the item is 0 the vector stays
+  pub nothing_placed : 1 ≤ w → item ≡ zero_ℚ → settle w (solve_one u v p) ≡ Some v
+  nothing_placed wide none =
+      let row = row_of u p in
+      let d = diagonal u p in
+      left_one d refl zero_ℚ (sym (by_none w wide item d none), by_none-fits w wide item d none)
+      ∙ place_settles w u v p zero_ℚ row (column u p) refl refl v (subtract_none w row zero_ℚ v (column u p) refl)
+      ∙ ap (λ a. Some (set v row a)) (sym none ∙ same) ∙ ap Some (set-get_or v row zero_ℚ)
+
 -- ---- solving for a row
 
 module _ (w : ℕ) (u : Triangle) (c z : List ℚ) (p : ℕ) (cost : ℚ) (row : ℕ) (stored : List (ℕ × ℚ)) (same_cost : cost ≡ at c p) (same_row : row ≡ row_of u p) (same : stored ≡ column u p) where
@@ -81,6 +113,11 @@ module _ (w : ℕ) (u : Triangle) (c z : List ℚ) (p : ℕ) (cost : ℚ) (row :
       → Exact k (rest /ℚ d) r → Settles w (back_item u c z p) r
   item_settles k rest d (Ok a) e f h exact = divided k rest d e f h ∙ settles-exact k (rest /ℚ d) (Ok a) exact
   item_settles k rest d (Err b) e f h exact = divided k rest d e f h ∙ settles-exact k (rest /ℚ d) (Err b) exact
+
+  -- what is 0 stays 0 by the diagonal
+  pub item_none : (rest : ℚ) → 1 ≤ w → rest ≡ zero_ℚ → settle w (gather row z cost stored) ≡ Some rest → settle w (back_item u c z p) ≡ Some rest
+  item_none rest wide none h =
+      divided w rest (diagonal u p) refl refl h ∙ quotient-none w wide rest (diagonal u p) none
 
 -- ---- buffers
 

@@ -8,7 +8,8 @@
 //! calculation settles to at the arithmetic's width, `Unfit` exactly where one of its worked values does not fit; it
 //! keeps the width, the count of unfit results rises by one exactly at `Unfit`, and the count of work rises at most by
 //! one and the number of its stored entries for each position. After `Unfit` the buffers hold anything. `solve` uses
-//! its vector up, and `solve_keeping` gives it back.
+//! its vector up, and `solve_keeping` gives it back. Neither walks the column of a position whose item is 0. `meets` says
+//! whether a position's column has an entry in a flagged row (`specs/Flags.antt`).
 //!
 //! `clear_row` takes the entries of a position's row out of all columns but the position's own, and `replace_col` puts
 //! a new column in a position whose row is clear, and the position behind all others (`Edits` of `factor_model`). So a
@@ -30,6 +31,7 @@ ghost use Rattle.factor_model.specs.Edits as edits;
 ghost use Rattle.factor_model.specs.Edits.{StandsAlone, cleared_columns};
 ghost use Rattle.factor_model.specs.Vectors.{entry};
 ghost use Rattle.sparse_cols.specs.Sparse.{IsRising, without_row};
+ghost use Rattle.upper_form.specs.Flags as rows;
 ghost use Rattle.factor_model.specs.Upper.{IsUpper, Solves, SolvesBack, by_position, cell, place_one, solve_one, solve_rows, solve_work};
 
 use exact_frac::{Arith, Frac, Unfit};
@@ -102,6 +104,15 @@ impl Upper {
         }
     }
 
+    /// Whether a position's column has an entry in a flagged row.
+    pub fn meets(&self, p: usize, flags: &[bool]) -> bool
+        requires position { p < length self.now.rows }
+        requires length { length flags.now ≡ length self.now.rows }
+        ensures { result ≡ rows.meets flags.now (upper.column self.now p) }
+    {
+        meets(&self.columns[p], flags)
+    }
+
     /// The order of the positions.
     pub fn order(&self) -> &OrderChain
         ensures { result.now ≡ self.now.order }
@@ -158,7 +169,7 @@ impl Upper {
         Ok(())
     }
 
-    // One position's step of `solve_in_rows`.
+    // One position's step of `solve_in_rows`. Where the item of its row is 0 its column is not walked.
     fn solve_position<A: Arith>(&self, p: usize, v: &mut [Frac], arith: &mut A) -> Result<(), Unfit>
         requires position { p < length self.now.rows }
         requires length { length v.old ≡ length self.now.rows }
@@ -169,6 +180,9 @@ impl Upper {
     {
         let row = self.row_of(p);
         let item = v[row];
+        if item.is_zero() {
+            return Ok(());
+        }
         match arith.div(item, self.diagonal(p)) {
             Ok(x) => self.place(p, row, x, v, arith),
             Err(unfit) => Err(unfit),
@@ -342,6 +356,7 @@ impl Upper {
         let row = self.row_of(p);
         let cost = c[p];
         match gather(row, z, cost, &self.columns[p], arith) {
+            Ok(rest) if rest.is_zero() => Ok(rest),
             Ok(rest) => arith.div(rest, self.diagonal(p)),
             Err(unfit) => Err(unfit),
         }
@@ -363,6 +378,21 @@ impl Upper {
     {
         self.order.after(p)
     }
+}
+
+// Whether a column has an entry in a flagged row.
+fn meets(column: &SparseCol<Frac>, flags: &[bool]) -> bool
+    requires { IsRising (length flags.now) 0 column.now.pairs }
+    ensures { result ≡ rows.meets flags.now column.now.pairs }
+{
+    for k in 0..column.count() {
+        let (i, _) = column.pair(k);
+        let flagged = flags[i];
+        if flagged {
+            return true;
+        }
+    }
+    false
 }
 
 // Takes a row out of each column but that of position `p`.

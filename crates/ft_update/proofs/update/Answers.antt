@@ -5,16 +5,15 @@ use Rattle.rational.specs.Rational.{ℚ, zero_ℚ, ◌*ℚ◌}
 use Rattle.rational.specs.Sum.{at}
 use Rattle.sparse_cols.specs.Sparse.{Sparse}
 use Rattle.factor_model.specs.declared.Op.{Op}
-use Rattle.factor_model.specs.declared.Op.TheVariants.{Row}
 use Rattle.factor_model.specs.Eta.{stored}
-use Rattle.factor_model.specs.Vectors.{entry, vector, sparse}
+use Rattle.factor_model.specs.Vectors.{entry}
 use Rattle.factor_model.specs.Upper.{Triangle, row_of, diagonal}
 use Rattle.factor_model.specs.Represents.{Represents}
-use Rattle.factor_model.specs.Edits.{StandsAlone, replace_column}
+use Rattle.factor_model.specs.Edits.{StandsAlone}
 use Rattle.factor_model.specs.Update.{AreApart, RowEta, row_operation, updated_upper, updated_parts, with_column}
 use Rattle.factor_model.proofs.EditLaws.{cleared-alone}
 use Rattle.factor_model.proofs.SparseLaws.{sparse-entry}
-use Rattle.ft_update.proofs.Updated.{refused_for, kept_by, parts_stop, parts_settle, updated-diagonal, updated-pivot, updated-represents, updated-stored, updated-apart}
+use Rattle.ft_update.proofs.Updated.{refused_for, kept_by, parts_stop, parts_settle, operation_put, column_put, updated-diagonal, updated-pivot, updated-represents, updated-stored, updated-apart}
 use Rattle.ft_update.proofs.update.Goals as goal
 
 pub returns-in_err-pivot-clause-fault : goal.returns-in_err-pivot-clause-fault
@@ -28,7 +27,7 @@ by_row-requires g c =
     let u = c.args.upper.now in
     let w = g.A.Arith.width c.args.arith.now in
     let e : RowEta = record { taken = c.reduce.new.taken.items; pivot = c.in_ok-pivot.pivot } in
-    subst (λ (n : ℕ). AreApart n c.deref.result.now) (sym c.len-2.ensures.value)
+    subst (λ (n : ℕ). AreApart n c.deref.result.now) (sym c.len-3.ensures.value)
     (subst (AreApart (length u.rows)) (sym c.deref.ensures.value) (updated-apart w c.args.etas.now u c.args.p c.args.spike.now e c.in_ok-pivot.ensures.settled
     c.len.ensures.upper c.requires.position c.requires.length))
 
@@ -59,15 +58,11 @@ returns-clause-settled g c =
     let p = c.args.p in
     let spike = c.args.spike.now in
     let e : RowEta = record { taken = c.reduce.new.taken.items; pivot = c.in_ok-pivot.pivot } in
-    let operation : c.in_ok-operation.operation ≡ sparse (vector (length u.rows) (entry e.taken)) =
-    c.in_ok-operation.ensures ∙ ap₂ (λ (n : ℕ) (ks : List (ℕ × ℚ)). sparse (vector n (entry ks))) c.len-2.ensures.value c.deref.ensures.value in
     let etas : c.push.new.self ≡ c.args.etas.now ++ row_operation u p e ∷ [] =
-    kept_by c.push.result c.if-is_err.ensures.value c.push.ensures.ok
-    ∙ ap₂ (λ (r : ℕ) (k : Sparse ℚ). c.args.etas.now ++ Row r k ∷ []) c.row_of-row.ensures.value operation in
-    let column : c.in_ok-column.column ≡ sparse (set spike (row_of u p) e.pivot) =
-    c.in_ok-column.ensures ∙ ap (λ (r : ℕ). sparse (set spike r e.pivot)) c.row_of-row.ensures.value in
+    operation_put c.args.etas.now c.push.new.self u p e _ _ _ _ c.in_ok-operation.ensures c.len-3.ensures.value c.deref.ensures.value c.row_of-row.ensures.value
+    (kept_by c.push.result c.if-is_err.ensures.value c.push.ensures.ok) in
     let form : c.replace_col.new.self ≡ updated_upper u p spike e =
-    c.replace_col.ensures ∙ ap₂ (λ (t : Triangle) (k : Sparse ℚ). replace_column t p k) c.clear_row.ensures column in
+    column_put u _ c.replace_col.new.self p spike e _ _ c.in_ok-column.ensures c.row_of-row.ensures.value c.clear_row.ensures c.replace_col.ensures in
     parts_settle w c.args.etas.now u p spike e c.in_ok-pivot.ensures.settled ∙ ap₂ (λ (xs : List Op) (t : Triangle). Some (xs, t)) (sym etas) (sym form)
 
 pub returns-clause-represents : goal.returns-clause-represents
@@ -77,15 +72,11 @@ returns-clause-represents g c b a factors is_spike =
     let p = c.args.p in
     let spike = c.args.spike.now in
     let e : RowEta = record { taken = c.reduce.new.taken.items; pivot = c.in_ok-pivot.pivot } in
-    let operation : c.in_ok-operation.operation ≡ sparse (vector (length u.rows) (entry e.taken)) =
-    c.in_ok-operation.ensures ∙ ap₂ (λ (n : ℕ) (ks : List (ℕ × ℚ)). sparse (vector n (entry ks))) c.len-2.ensures.value c.deref.ensures.value in
     let etas : c.push.new.self ≡ c.args.etas.now ++ row_operation u p e ∷ [] =
-    kept_by c.push.result c.if-is_err.ensures.value c.push.ensures.ok
-    ∙ ap₂ (λ (r : ℕ) (k : Sparse ℚ). c.args.etas.now ++ Row r k ∷ []) c.row_of-row.ensures.value operation in
-    let column : c.in_ok-column.column ≡ sparse (set spike (row_of u p) e.pivot) =
-    c.in_ok-column.ensures ∙ ap (λ (r : ℕ). sparse (set spike r e.pivot)) c.row_of-row.ensures.value in
+    operation_put c.args.etas.now c.push.new.self u p e _ _ _ _ c.in_ok-operation.ensures c.len-3.ensures.value c.deref.ensures.value c.row_of-row.ensures.value
+    (kept_by c.push.result c.if-is_err.ensures.value c.push.ensures.ok) in
     let form : c.replace_col.new.self ≡ updated_upper u p spike e =
-    c.replace_col.ensures ∙ ap₂ (λ (t : Triangle) (k : Sparse ℚ). replace_column t p k) c.clear_row.ensures column in
+    column_put u _ c.replace_col.new.self p spike e _ _ c.in_ok-column.ensures c.row_of-row.ensures.value c.clear_row.ensures c.replace_col.ensures in
     subst (λ (xs : List Op). Represents (length u.rows) xs c.replace_col.new.self (with_column b p a)) (sym etas)
     (subst (λ (t : Triangle). Represents (length u.rows) (c.args.etas.now ++ row_operation u p e ∷ []) t (with_column b p a)) (sym form)
     (updated-represents w c.args.etas.now u p spike e c.in_ok-pivot.ensures.settled c.len.ensures.upper c.requires.position c.requires.length c.requires.pivot b a factors is_spike))
@@ -97,10 +88,8 @@ returns-clause-diagonal g c x solves =
     let p = c.args.p in
     let spike = c.args.spike.now in
     let e : RowEta = record { taken = c.reduce.new.taken.items; pivot = c.in_ok-pivot.pivot } in
-    let column : c.in_ok-column.column ≡ sparse (set spike (row_of u p) e.pivot) =
-    c.in_ok-column.ensures ∙ ap (λ (r : ℕ). sparse (set spike r e.pivot)) c.row_of-row.ensures.value in
     let form : c.replace_col.new.self ≡ updated_upper u p spike e =
-    c.replace_col.ensures ∙ ap₂ (λ (t : Triangle) (k : Sparse ℚ). replace_column t p k) c.clear_row.ensures column in
+    column_put u _ c.replace_col.new.self p spike e _ _ c.in_ok-column.ensures c.row_of-row.ensures.value c.clear_row.ensures c.replace_col.ensures in
     subst (λ (t : Triangle). diagonal t p ≡ diagonal u p *ℚ at x p) (sym form)
     (updated-diagonal w c.args.etas.now u p spike e c.in_ok-pivot.ensures.settled c.len.ensures.upper c.requires.position c.requires.length x solves)
 
@@ -111,10 +100,8 @@ returns-clause-entries g c =
     let p = c.args.p in
     let spike = c.args.spike.now in
     let e : RowEta = record { taken = c.reduce.new.taken.items; pivot = c.in_ok-pivot.pivot } in
-    let operation : c.in_ok-operation.operation ≡ sparse (vector (length u.rows) (entry e.taken)) =
-    c.in_ok-operation.ensures ∙ ap₂ (λ (n : ℕ) (ks : List (ℕ × ℚ)). sparse (vector n (entry ks))) c.len-2.ensures.value c.deref.ensures.value in
     let etas : c.push.new.self ≡ c.args.etas.now ++ row_operation u p e ∷ [] =
-    kept_by c.push.result c.if-is_err.ensures.value c.push.ensures.ok
-    ∙ ap₂ (λ (r : ℕ) (k : Sparse ℚ). c.args.etas.now ++ Row r k ∷ []) c.row_of-row.ensures.value operation in
+    operation_put c.args.etas.now c.push.new.self u p e _ _ _ _ c.in_ok-operation.ensures c.len-3.ensures.value c.deref.ensures.value c.row_of-row.ensures.value
+    (kept_by c.push.result c.if-is_err.ensures.value c.push.ensures.ok) in
     subst (λ (xs : List Op). stored xs < stored c.args.etas.now + length u.rows) (sym etas)
     (updated-stored w c.args.etas.now u p spike e c.in_ok-pivot.ensures.settled c.len.ensures.upper c.requires.position c.requires.length)

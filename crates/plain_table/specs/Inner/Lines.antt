@@ -1,12 +1,12 @@
 -- What is listed where a line of numbers is worked by column, and what becomes of the line.
-use Rattle.std.specs.Prelude.{◌≡◌, ◌≢◌, ℕ, ◌<◌, List, map, length, get_or, Some, Result, MatchResult}
+use Rattle.std.specs.Prelude.{◌≡◌, ◌≢◌, ℕ, ◌<◌, List, map, length, get_or, Some}
 use Rattle.std.specs.List.{flat_map}
 use Rattle.lp_model.specs.declared.Place.{Place}
 use Rattle.rational.specs.Rational.{ℚ, zero_ℚ, ◌-ℚ◌, ◌*ℚ◌, ◌/ℚ◌}
 use Rattle.rational.specs.Sparse.{upto}
 use Rattle.rational.specs.Sum.{at}
 use Rattle.rational.specs.Worked.{less, placed}
-use Rattle.lp_run.specs.Listing.{AllFit, Listed, first_unfit}
+use Rattle.lp_run.specs.Listing.{Listed}
 
 -- the place in a column
 abbrev pub in_column : Place → ℕ → Place

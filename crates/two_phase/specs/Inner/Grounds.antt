@@ -1,5 +1,5 @@
 -- What a run stands on: factors of its state's basis, or the plain table.
-use Rattle.std.specs.Prelude.{◌≡◌, ℕ, ◌≤◌, List, [], ◌∷◌, ◌++◌, length}
+use Rattle.std.specs.Prelude.{◌≡◌, ℕ, ◌≤◌, List, [], ◌∷◌, ◌++◌, length, Bool, true, Option, Some, None}
 use Rattle.lp_model.specs.declared.Entry.{Entry}
 use Rattle.lp_model.specs.Log.{moves}
 use Rattle.lp_run.specs.Instance.{Instance}
@@ -11,7 +11,7 @@ use Rattle.two_phase.specs.declared.ground.Ground.{Ground}
 use Rattle.two_phase.specs.declared.ground.Ground.TheVariants as ground
 use Rattle.two_phase.specs.declared.reached.Reached.{Reached}
 use Rattle.two_phase.specs.declared.reached.Reached.TheVariants as reached
-use Rattle.two_phase.specs.declared.reached.Stop.{Stop}
+use Rattle.run_outcome.specs.declared.stop.Stop.{Stop}
 use Rattle.two_phase.specs.Inner.Iterates.{IsIterate}
 use Rattle.two_phase.specs.Inner.Plains.{IsFitted, TableStops}
 use Rattle.two_phase.specs.Inner.Reaching.{StopsAt}
@@ -39,6 +39,11 @@ abbrev pub GroundReaches : ℕ → Instance → ℕ → List Entry → State →
 GroundReaches w inst budget log s log' new (reached.Entry e) = IsNext inst s e × (log' ≡ log ++ e ∷ []) × GroundStands w inst log' new × (moves log' ≤ budget)
 GroundReaches w inst budget log s log' new (reached.End end) = (log' ≡ log) × GroundStands w inst log' new × GroundStops inst new end
 GroundReaches w inst budget log s log' new reached.Spent = (log' ≡ log) × GroundStands w inst log' new × IsSpent inst budget
+
+-- where an unfit choice leads to no step, the factors are given up for it
+abbrev pub GroundRescues : Bool → ℕ → Instance → List Entry → Ground → List Entry → Ground → Option Reached → Type 0
+GroundRescues unfit w inst log old log' new None = (unfit ≡ true) × (IsPlain old → ⊥) × IsPlain new × (log' ≡ log) × GroundStands w inst log new
+GroundRescues unfit w inst log old log' new (Some reached) = Unit {0}
 
 -- a value that is worked with its factors does not fit; the plain table has no such cause
 abbrev pub HasCause : ℕ → Instance → List Entry → Ground → Type 0

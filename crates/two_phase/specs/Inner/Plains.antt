@@ -2,6 +2,7 @@
 use Rattle.std.specs.Prelude.{◌≡◌, ℕ, ◌≤◌, List, [], ◌∷◌, ◌++◌}
 use Rattle.lp_model.specs.declared.Entry.{Entry}
 use Rattle.lp_model.specs.Log.{moves}
+use Rattle.exact_frac.specs.Count.{raised}
 use Rattle.lp_run.specs.Instance.{Instance}
 use Rattle.lp_run.specs.Listing.{IsFirstUnfit}
 use Rattle.lp_run.specs.Run.{IsRun, IsSpent}
@@ -14,9 +15,9 @@ use Rattle.plain_table.specs.Next.{column, prices}
 use Rattle.plain_table.specs.Plain.{Plain, Stands}
 use Rattle.two_phase.specs.declared.reached.Reached.{Reached}
 use Rattle.two_phase.specs.declared.reached.Reached.TheVariants as reached
-use Rattle.two_phase.specs.declared.reached.Stop.{Stop}
-use Rattle.two_phase.specs.declared.reached.Stop.TheVariants as stop
-use Rattle.two_phase.specs.Inner.Reaching.{Stops}
+use Rattle.run_outcome.specs.declared.stop.Stop.{Stop}
+use Rattle.run_outcome.specs.declared.stop.Stop.TheVariants as stop
+use Rattle.run_outcome.specs.Endings.{Stops}
 
 -- the table stands at the state that the log reaches, and all that was worked before fits
 pub record IsFitted (w : ℕ) (inst : Instance) (log : List Entry) (t : Plain) : Type 0 where
@@ -43,3 +44,13 @@ TableReaches w inst budget log t log' t' reached.Spent = (log' ≡ log) × (t' �
 abbrev pub IsRunFault : ℕ → Instance → List Entry → TableFault → Type 0
 IsRunFault w inst log fault.Memory = Unit {0}
 IsRunFault w inst log (fault.Overflow here) = (s : State) × IsRun inst log s × IsFirstUnfit w inst log s here
+
+-- an overflow has raised the count of unfit results, where it is not at its end
+abbrev pub HasRisen : ℕ → ℕ → TableFault → Type 0
+HasRisen old new fault.Memory = Unit {0}
+HasRisen old new (fault.Overflow here) = raised old 1 ≤ new
+
+-- an overflow comes only with a cause
+abbrev pub OverflowsFor : Type 0 → TableFault → Type 0
+OverflowsFor cause fault.Memory = Unit {0}
+OverflowsFor cause (fault.Overflow here) = cause

@@ -8,24 +8,17 @@ use Rattle.lp_run.specs.Run.{IsSpent}
 use Rattle.lp_model.specs.declared.Place.{Place}
 use Rattle.rational.specs.Worked.{settle}
 use Rattle.lp_run.specs.Listing.{first_unfit}
-use Rattle.lp_run.specs.Solution.{Prices, reduced}
+use Rattle.lp_run.specs.Solution.{Prices}
 use Rattle.plain_table.specs.Inner.Starts.{start_values_listing}
 use Rattle.factor_run.specs.Built.{made_anew}
 use Rattle.lp_run.specs.State.{State, start_of}
-use Rattle.lp_run.specs.Step.{EndsFree, EndsInfeasible, EndsOptimal, Enters, IsNext, NoneEligible, direction}
-use Rattle.bland_ratio.specs.Leave.{direction_where}
+use Rattle.lp_run.specs.Step.{Enters, IsNext, NoneEligible}
+use Rattle.run_outcome.specs.Endings.{Stops}
 use Rattle.two_phase.specs.declared.iterate.Iterate.{Iterate}
 use Rattle.two_phase.specs.declared.reached.Reached.{Reached}
 use Rattle.two_phase.specs.declared.reached.Reached.TheVariants as reached
-use Rattle.two_phase.specs.declared.reached.Stop.{Stop}
-use Rattle.two_phase.specs.declared.reached.Stop.TheVariants as stop
+use Rattle.run_outcome.specs.declared.stop.Stop.{Stop}
 use Rattle.two_phase.specs.Inner.Iterates.{IsIterate}
-
--- the run ends so, at the prices y and the basic values β; a column that moves without a limit is α in terms of the basis
-abbrev pub Stops : Instance → State → List ℚ → List ℚ → List ℚ → Stop → Type 0
-Stops inst s y β α stop.Optimal = EndsOptimal inst s y β
-Stops inst s y β α stop.Infeasible = EndsInfeasible inst s y β
-Stops inst s y β α (stop.Free q down) = EndsFree inst s y β α q × (direction (reduced inst s y q) ≡ direction_where down)
 
 -- the iterate's prices are worked, and the run ends so at its state
 abbrev pub StopsAt : Instance → Iterate → Stop → Type 0

@@ -1,12 +1,14 @@
 -- The entries of a structural are gathered; a logical and an artificial have one.
-use Rattle.std.proofs.Common.{◌<◌, ◌≤◌, length, refl, ◌∙◌, ap, arith}
+use Rattle.std.proofs.Common.{◌≡◌, ◌<◌, length, refl, ◌∙◌, ap, arith}
 use Rattle.rational.specs.Rational.{ℚ, one_ℚ}
 use Rattle.exact_frac.specs.Constants.{ratio-one}
 use Rattle.sparse_cols.specs.Sparse.{Sparse}
 use Rattle.sparse_steps.proofs.Steps.{item_read}
 use Rattle.lp_run.specs.declared.ColumnKind.TheVariants as column
 use Rattle.lp_run.specs.Instance.{passed_side, row_count, sign_past}
-use Rattle.bland_ratio.proofs.Priced.{few_entries, gathers, kind_within, one_settles}
+use Rattle.bland_ratio.specs.Entries.{column_entries}
+use Rattle.bland_ratio.proofs.Counting.{entries-of}
+use Rattle.bland_ratio.proofs.Priced.{gathers, kind_within, one_settles}
 use Rattle.bland_ratio.proofs.pricing.price.Goals as goal
 
 pub gather-requires-after_bounds : goal.gather-requires-after_bounds
@@ -16,10 +18,20 @@ gather-requires-after_bounds g c = λ κs bounds.
 
 pub returns-in-Structural-clause-work : goal.returns-in-Structural-clause-work
 returns-in-Structural-clause-work g c =
-    let below = kind_within c.args.inst.now c.args.j (column.Structural c.in-Structural.k) c.requires.column c.in-Structural.ensures in
-    let few : length c.entries.result.now.pairs ≤ row_count c.args.inst.now =
-    few_entries c.args.inst.now c.rows-rows.ensures.well_formed c.in-Structural.k c.entries.result.now.pairs below (ap (λ (entries : Sparse ℚ). entries.pairs) c.entries.ensures) in
-    omega (arith, few, c.gather.ensures.work)
+    let inst = c.args.inst.now in
+    let stored : length c.entries.result.now.pairs ≡ column_entries inst c.args.j =
+    ap (λ (entries : Sparse ℚ). length entries.pairs) c.entries.ensures ∙ entries-of inst c.args.j (column.Structural c.in-Structural.k) c.in-Structural.ensures in
+    omega (arith, stored, c.gather.ensures.work)
+
+pub returns-in-Logical-clause-work : goal.returns-in-Logical-clause-work
+returns-in-Logical-clause-work g c =
+    let stored : 1 ≡ column_entries c.args.inst.now c.args.j = entries-of c.args.inst.now c.args.j (column.Logical c.in-Logical.i) c.in-Logical.ensures in
+    omega (arith, stored, c.less_product.ensures.work)
+
+pub returns-in-Artificial-clause-work : goal.returns-in-Artificial-clause-work
+returns-in-Artificial-clause-work g c =
+    let stored : 1 ≡ column_entries c.args.inst.now c.args.j = entries-of c.args.inst.now c.args.j (column.Artificial c.in-Artificial.i) c.in-Artificial.ensures in
+    omega (arith, stored, c.less_product-in-Artificial.ensures.work)
 
 pub returns-in-Logical-clause-settled : goal.returns-in-Logical-clause-settled
 returns-in-Logical-clause-settled g c =

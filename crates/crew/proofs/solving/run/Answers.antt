@@ -1,19 +1,111 @@
--- Each entry leads nearer to the end of the run.
-use Rattle.std.proofs.Common.{subst}
-use Rattle.bland_laws.specs.Ends.{run_bound}
-use Rattle.plain_table.specs.Next.{OverflowsNext}
-use Rattle.crew.proofs.Runs.{is_short, nearer, overflows_now}
+use Rattle.std.proofs.Common.{◌+◌, length, refl, ◌∙◌, ap, sym, subst, arith}
+use Rattle.factor_run.specs.Calm.{IsCalm}
+use Rattle.two_phase.specs.Tally.{HasRoundWorked, HasWorked}
+use Rattle.two_phase.proofs.Tallies.{nothing_worked}
+use Rattle.crew.proofs.Calms.{on_ok_all}
+use Rattle.std.specs.Arc.{arc_value}
+use Rattle.two_phase.specs.Board.{BoardStands}
+use Rattle.two_phase.specs.declared.standing.Recorded.TheVariants as recorded
+use Rattle.crew.specs.Inner.Rounds.{GoesOn}
+use Rattle.crew.proofs.Rounds.{ended_cause, entry_nearer}
 use Rattle.crew.proofs.solving.run.Goals as goal
 
-pub entries-smaller : goal.entries-smaller
-entries-smaller g c =
-    let inst = c.args.inst.now in
-    nearer (run_bound inst) c.entries.log c.advance.new.log c.in-Ok-Entry.entry c.in_ok-advance-in-Ok-Entry.ensures.log
-    (is_short _ inst c.args.budget c.advance.new.log c.advance.new.table c.in_ok-advance-in-Ok-Entry.ensures.under_way)
+pub rounds-smaller-in-Entry : goal.rounds-smaller-in-Entry
+rounds-smaller-in-Entry g c =
+    let w = g.A.Arith.width c.rounds.board.arith in
+    let e = c.in-Entry.field-0 in
+    let goes : GoesOn c.rounds.board c.round.new.board (recorded.Entry e) = subst (GoesOn c.rounds.board c.round.new.board) c.in-Entry.is c.in_ok-round.ensures.goes in
+    entry_nearer w c.rounds.board c.round.new.board (subst (λ w. BoardStands w c.rounds.board) (sym c.rounds.invariant.board_width) c.rounds.invariant.stands) c.in_ok-round.ensures.stands
+    c.in_ok-round.ensures.instance e goes.0
 
-pub returns-in-Err-clause-fault : goal.returns-in-Err-clause-fault
-returns-in-Err-clause-fault g c =
-    let w = g.A.Arith.width c.args.arith.now in
-    let inst = c.args.inst.now in
-    overflows_now w inst c.args.budget c.entries.log c.entries.table c.entries.invariant.under_way c.in-Err.place
-    (subst (λ w. OverflowsNext w inst c.entries.table c.in-Err.place) c.entries.invariant.width c.in-Err.ensures.overflow)
+pub returns-in-Ended-clause-fault : goal.returns-in-Ended-clause-fault
+returns-in-Ended-clause-fault g c =
+    let goes : GoesOn c.rounds.board c.round.new.board (recorded.Ended c.in-Ended.standing) = subst (GoesOn c.rounds.board c.round.new.board) c.in-Ended.is c.in_ok-round.ensures.goes in
+    ended_cause (g.A.Arith.width c.args.board.now.arith) c.round.new.board (subst (λ w. BoardStands w c.round.new.board) c.rounds.invariant.board_width c.in_ok-round.ensures.stands)
+    c.args.board.now.inst.value (ap (λ a. arc_value a) (c.in_ok-round.ensures.instance ∙ c.rounds.invariant.instance))
+    c.args.budget (c.in_ok-round.ensures.budget ∙ c.rounds.invariant.budget ∙ c.requires.budget) c.in-Ended.standing goes.1 c.end_of.result c.end_of.ensures.spent
+
+pub rounds-init : goal.rounds-init
+rounds-init g c =
+    let b = c.args.board.now in
+    record {
+      stands = c.requires.stands;
+      running = c.requires.running;
+      instance = refl;
+      budget = refl;
+      board_width = refl;
+      width = refl;
+      unfit = omega arith;
+      calm = λ calm fresh. (fresh.factors, refl, refl, nothing_worked b.inst.value b.log b.updates (g.A.Arith.work_count b.arith + g.A.Arith.work_count c.args.arith.now) fresh.log fresh.updates);
+    }
+
+pub rounds-preserved-in-Entry : goal.rounds-preserved-in-Entry
+rounds-preserved-in-Entry g c =
+    let start = c.args.board.now in
+    let b = c.rounds.board in
+    let new = c.round.new.board in
+    let e = c.in_ok-round.ensures in
+    let inv = c.rounds.invariant in
+    let before = g.A.Arith.work_count start.arith + g.A.Arith.work_count c.args.arith.now in
+    let then = g.A.Arith.work_count b.arith + g.A.Arith.work_count c.rounds.arith in
+    let now = g.A.Arith.work_count new.arith + g.A.Arith.work_count c.round.new.arith in
+    let goes : GoesOn b new (recorded.Entry c.in-Entry.field-0) = subst (GoesOn b new) c.in-Entry.is e.goes in
+    record {
+      stands = subst (λ w. BoardStands w new) inv.board_width e.stands;
+      running = goes.1;
+      instance = e.instance ∙ inv.instance;
+      budget = e.budget ∙ inv.budget;
+      board_width = e.board_width ∙ inv.board_width;
+      width = e.width ∙ inv.width;
+      unfit = omega (arith, inv.unfit, e.unfit);
+      calm = λ calm fresh.
+          let (factors, board_fits, fits, worked) = inv.calm calm fresh in
+          let calm' = subst (λ w. IsCalm w b.inst.value) (sym inv.board_width) (subst (λ i. IsCalm (g.A.Arith.width start.arith) (arc_value i)) (sym inv.instance) calm) in
+          let kept = e.calm calm' factors in
+          let round = e.work before calm' factors (subst (λ i. HasWorked (arc_value i) b.log (length b.log) b.updates before then) (sym inv.instance) worked) in
+          let entry : HasRoundWorked b.inst.value new before now (recorded.Entry c.in-Entry.field-0) = subst (HasRoundWorked b.inst.value new before now) c.in-Entry.is round in
+          (entry.0, kept.0 ∙ board_fits, kept.1 ∙ fits, subst (λ i. HasWorked (arc_value i) new.log (length new.log) new.updates before now) inv.instance entry.1);
+    }
+
+pub rounds-preserved : goal.rounds-preserved
+rounds-preserved g c =
+    let start = c.args.board.now in
+    let b = c.rounds.board in
+    let new = c.round.new.board in
+    let e = c.in_ok-round.ensures in
+    let inv = c.rounds.invariant in
+    let before = g.A.Arith.work_count start.arith + g.A.Arith.work_count c.args.arith.now in
+    let then = g.A.Arith.work_count b.arith + g.A.Arith.work_count c.rounds.arith in
+    let now = g.A.Arith.work_count new.arith + g.A.Arith.work_count c.round.new.arith in
+    let goes : GoesOn b new recorded.Rescued = subst (GoesOn b new) c.in-Rescued.is e.goes in
+    record {
+      stands = subst (λ w. BoardStands w new) inv.board_width e.stands;
+      running = goes.1;
+      instance = e.instance ∙ inv.instance;
+      budget = e.budget ∙ inv.budget;
+      board_width = e.board_width ∙ inv.board_width;
+      width = e.width ∙ inv.width;
+      unfit = omega (arith, inv.unfit, e.unfit);
+      calm = λ calm fresh.
+          let (factors, board_fits, fits, worked) = inv.calm calm fresh in
+          let calm' = subst (λ w. IsCalm w b.inst.value) (sym inv.board_width) (subst (λ i. IsCalm (g.A.Arith.width start.arith) (arc_value i)) (sym inv.instance) calm) in
+          let round = e.work before calm' factors (subst (λ i. HasWorked (arc_value i) b.log (length b.log) b.updates before then) (sym inv.instance) worked) in
+          let rescued : HasRoundWorked b.inst.value new before now recorded.Rescued = subst (HasRoundWorked b.inst.value new before now) c.in-Rescued.is round in
+          absurd rescued;
+    }
+
+pub returns-in-Ended-clause-work : goal.returns-in-Ended-clause-work
+returns-in-Ended-clause-work g c calm fresh =
+    let start = c.args.board.now in
+    let b = c.rounds.board in
+    let new = c.round.new.board in
+    let e = c.in_ok-round.ensures in
+    let inv = c.rounds.invariant in
+    let before = g.A.Arith.work_count start.arith + g.A.Arith.work_count c.args.arith.now in
+    let then = g.A.Arith.work_count b.arith + g.A.Arith.work_count c.rounds.arith in
+    let now = g.A.Arith.work_count new.arith + g.A.Arith.work_count c.round.new.arith in
+    let (factors, board_fits, fits, worked) = inv.calm calm fresh in
+    let calm' = subst (λ w. IsCalm w b.inst.value) (sym inv.board_width) (subst (λ i. IsCalm (g.A.Arith.width start.arith) (arc_value i)) (sym inv.instance) calm) in
+    let round = e.work before calm' factors (subst (λ i. HasWorked (arc_value i) b.log (length b.log) b.updates before then) (sym inv.instance) worked) in
+    let ended : HasRoundWorked b.inst.value new before now (recorded.Ended c.in-Ended.standing) = subst (HasRoundWorked b.inst.value new before now) c.in-Ended.is round in
+    on_ok_all c.end_of.result (subst (λ i. HasWorked (arc_value i) new.log (length new.log + 1) new.updates before now) inv.instance ended)

@@ -1,10 +1,12 @@
-use Rattle.std.proofs.Common.{◌≡◌, ◌+◌, ◌*◌, ◌<◌, ◌≤◌, [], length}
+use Rattle.std.proofs.Common.{◌≡◌, true, ◌+◌, ◌*◌, ◌<◌, ◌≤◌, [], length}
 use Rattle.std.specs.Prelude.{vec_capacity}
 use Rattle.std.specs.Option.{IfSome}
 use Rattle.chain_links.specs.Lists.{rest}
 use Rattle.rational.specs.Worked.{settle}
 use Rattle.factor_model.specs.Upper.{row_of}
 use Rattle.factor_model.specs.Update.{behind, multipliers}
+use Rattle.upper_form.specs.Flags.{is_flagged}
+use Rattle.ft_update.specs.Inner.Flagged.{AreFlagged}
 use Rattle.ft_update.proofs.multipliers.multipliers.Given as goal
 
 -- what is left of the positions settles as all of them
@@ -14,6 +16,9 @@ invariant-loop-next g l = record {
   width : g.A.Arith.width l.arith ≡ g.A.Arith.width l.fn.arith;
   left : settle (g.A.Arith.width l.fn.arith) (multipliers l.upper (row_of l.upper l.fn.p) l.taken.items (rest l.next l.upper.order))
       ≡ settle (g.A.Arith.width l.fn.arith) (multipliers l.upper (row_of l.upper l.fn.p) [] (behind l.fn.p l.upper.order));
+  flags : length l.flags ≡ length l.upper.rows;
+  here : is_flagged l.flags (row_of l.upper l.fn.p) ≡ true;
+  flagged : AreFlagged l.flags l.taken.items;
   fewer : length l.taken.items + length (rest l.next l.upper.order) < length l.upper.rows;
   capacity : vec_capacity l.taken ≡ vec_capacity l.fn.taken;
   unfit : g.A.Arith.unfit_count l.arith ≡ g.A.Arith.unfit_count l.fn.arith;

@@ -1,6 +1,4 @@
-use Rattle.std.proofs.Common.{◌≡◌, ℕ, length, Some, sym, ◌∙◌, ap, subst}
-use Rattle.rational.specs.Worked.{settle}
-use Rattle.factor_model.specs.Factoring.{made_factors}
+use Rattle.std.proofs.Common.{Some, sym, ◌∙◌, ap, subst}
 use Rattle.factor_model.specs.Factors.{Factors, AreFactors}
 use Rattle.markowitz_lu.specs.Columns.{matrix_of}
 use Rattle.ftran_btran.specs.Kept.{size}

@@ -1,6 +1,6 @@
-use Rattle.std.proofs.Common.{subst, sym}
+use Rattle.std.proofs.Common.{subst, sym, ◌∙◌}
 use Rattle.bland_laws.proofs.OfDeck.{well_formed}
-use Rattle.crew.specs.Answers.{IsCause}
+use Rattle.crew.specs.Answers.{HasClosed, IsCause}
 use Rattle.lp_run.specs.Instance.{IsWellFormed}
 use Rattle.lp_main.specs.Solves.{IsReportCause}
 use Rattle.lp_main.specs.declared.refusal.Refusal.TheVariants as refusal
@@ -11,11 +11,12 @@ pub report_of_closed-requires-clause-formed : goal.report_of_closed-requires-cla
 report_of_closed-requires-clause-formed g c = subst IsWellFormed (sym c.requires.instance) (well_formed c.args.deck.now c.requires.deck)
 
 pub report_of_closed-requires-clause-run : goal.report_of_closed-requires-clause-run
-report_of_closed-requires-clause-run g c = closed_run c.args.inst.now c.in-Ok.closed _ c.in-Ok.ensures.solves
+report_of_closed-requires-clause-run g c = closed_run c.args.inst.now c.in-Ok.closed _ (subst (λ i. HasClosed i c.args.asked.budget c.in-Ok.closed) (c.requires.shared ∙ sym c.requires.instance) c.in-Ok.ensures.solves)
 
 pub returns-in-Ok-clause-report : goal.returns-in-Ok-clause-report
 returns-in-Ok-clause-report g c =
-    report_is c.args.deck.now c.requires.deck c.args.asked c.args.inst.now c.requires.instance c.in-Ok.closed c.in-Ok.ensures.solves c.report_of_closed.result c.report_of_closed.ensures
+    report_is c.args.deck.now c.requires.deck c.args.asked c.args.inst.now c.requires.instance c.in-Ok.closed
+    (subst (λ i. HasClosed i c.args.asked.budget c.in-Ok.closed) (c.requires.shared ∙ sym c.requires.instance) c.in-Ok.ensures.solves) c.report_of_closed.result c.report_of_closed.ensures
 
 pub returns-in-Ok-clause-cause : goal.returns-in-Ok-clause-cause
 returns-in-Ok-clause-cause g c = report_or_memory c.args.asked c.args.inst.now c.in-Ok.closed (g.A.Arith.width c.args.arith.now) c.args.deck.now c.report_of_closed.result c.report_of_closed.ensures
@@ -25,9 +26,9 @@ returns-in-Err-Overflow-clause-cause g c =
     let w = g.A.Arith.width c.args.arith.now in
     let d = c.args.deck.now in
     let asked = c.args.asked in
-    let inst = c.args.inst.now in
+    let inst = c.args.shared.value in
     subst (λ here. IsReportCause asked w d (refusal.Overflow here)) (sym c.in-Err-Overflow.place-is)
-    (overflow_cause d c.requires.deck asked w inst c.requires.instance c.in-Err-Overflow.place
+    (overflow_cause d c.requires.deck asked w inst c.requires.shared c.in-Err-Overflow.place
     (subst (IsCause w inst asked.budget) c.in-Err-Overflow.field-0-is c.in-Err-Overflow.ensures.solves))
 
 pub returns-in-Err-Budget-clause-cause : goal.returns-in-Err-Budget-clause-cause
@@ -35,7 +36,7 @@ returns-in-Err-Budget-clause-cause g c =
     let w = g.A.Arith.width c.args.arith.now in
     let d = c.args.deck.now in
     let asked = c.args.asked in
-    let inst = c.args.inst.now in
+    let inst = c.args.shared.value in
     subst (λ n. IsReportCause asked w d (refusal.Budget n)) (sym c.in-Err-Budget.moves-is)
-    (budget_cause d c.requires.deck asked w inst c.requires.instance c.in-Err-Budget.moves
+    (budget_cause d c.requires.deck asked w inst c.requires.shared c.in-Err-Budget.moves
     (subst (IsCause w inst asked.budget) c.in-Err-Budget.field-0-is c.in-Err-Budget.ensures.solves))

@@ -1,5 +1,5 @@
 -- The values before the one at which the loop stops fit.
-use Rattle.std.proofs.Common.{◌<◌, Some, None, length, ◌∙◌, sym, ap, subst, arith}
+use Rattle.std.proofs.Common.{◌<◌, Some, None, length, refl, ◌∙◌, sym, ap, subst, arith}
 use Rattle.std.proofs.Math.ListN.{length-set}
 use Rattle.lp_model.specs.declared.Kind.TheVariants as kind
 use Rattle.rational.specs.Width.{FitsWidth}
@@ -8,6 +8,7 @@ use Rattle.lp_run.specs.Listing.{AllFit, place, start_sums}
 use Rattle.plain_table.specs.Inner.Starts.{basic_start}
 use Rattle.plain_table.proofs.Lines.{all-map, first-map, fit_at, set_next, unfit_at}
 use Rattle.plain_table.proofs.StartValues.{part_fits}
+use Rattle.plain_table.proofs.StartWork.{next-left, start-left}
 use Rattle.plain_table.proofs.start_values.work_start_values.Goals as goal
 use borrow.Author.Count.{below_more}
 
@@ -32,6 +33,7 @@ loop-p-preserved g c =
     record {
       width = c.fit.ensures.same_width ∙ same;
       unfit = c.in-Ok.ensures.unfit ∙ c.basic_start-value.ensures.unfit ∙ c.loop-p.invariant.unfit;
+      work = omega (arith, next-left inst c.loop-p.p, c.loop-p.invariant.work, c.basic_start-value.ensures.work, c.fit.ensures.work);
       count = length-set c.loop-p.out c.loop-p.p c.in-Ok.value ∙ c.loop-p.invariant.count;
       values = set_next (basic_start inst) c.loop-p.out c.loop-p.p c.in-Ok.value within_out c.loop-p.invariant.values (c.in-Ok.ensures.answer.0 ∙ c.basic_start-value.ensures.value);
       fits = below_more (λ k. FitsWidth (g.A.Arith.width c.args.arith.now) (basic_start inst k)) c.loop-p.p c.loop-p.invariant.fits
@@ -42,3 +44,9 @@ pub returns-clause-answer : goal.returns-clause-answer
 returns-clause-answer g c =
     all-map _ (λ p. place 0 kind.Value (Some p) None) (basic_start c.args.inst.now) (row_count c.args.inst.now)
     (λ k b. c.loop-p.invariant.fits k (omega (arith, c.rows-p-end.ensures.count)))
+
+pub loop-p-init : goal.loop-p-init
+loop-p-init g c = record { width = refl; unfit = refl; work = omega (arith, start-left c.args.inst.now); count = c.requires.count; values = λ k b. absurd (omega arith); fits = λ k b. absurd (omega arith) }
+
+pub returns-in-Err-clause-work : goal.returns-in-Err-clause-work
+returns-in-Err-clause-work g c = omega (arith, next-left c.args.inst.now c.loop-p.p, c.loop-p.invariant.work, c.basic_start-value.ensures.work, c.fit.ensures.work)

@@ -1,7 +1,0 @@
-use Rattle.std.proofs.Common.{List, length, ◌∙◌, ap}
-use Rattle.rational.specs.Rational.{ℚ}
-use Rattle.crew.proofs.Closings.{point_length}
-use Rattle.crew.proofs.closing.optimum.Goals as goal
-
-pub objective-requires-after_bounds : goal.objective-requires-after_bounds
-objective-requires-after_bounds g c = λ κs bounds. ap (λ (xs : List ℚ). length xs) c.deref.ensures.value ∙ point_length c.args.inst.now c.args.table.now c.in_ok-x.x.items c.in_ok-x.ensures

@@ -1,0 +1,2 @@
+-- inner: what the parts of an outcome answer.
+pub mod Parts

@@ -1,0 +1,32 @@
+use Rattle.std.proofs.Common.{◌+◌, ◌≤◌, [], refl, sym, subst}
+use Rattle.bland_ratio.specs.Entries.{stored_entries}
+use Rattle.factor_run.specs.Bound.{making_work}
+use Rattle.factor_run.specs.Calm.{IsCalm}
+use Rattle.lp_run.specs.Instance.{IsWellFormed}
+use Rattle.two_phase.specs.Inner.Grounds.{GroundStands}
+use Rattle.two_phase.proofs.Boards.{starts, stands_built}
+use Rattle.two_phase.proofs.board.Board.new.Goals as goal
+
+pub returns-in-Ok-clause-stands : goal.returns-in-Ok-clause-stands
+returns-in-Ok-clause-stands g c =
+    starts (g.A.Arith.width c.args.arith) _ c.new.ensures refl refl refl (subst IsWellFormed c.deref.ensures c.in-Ok.ensures.well_formed) c.requires.fits
+    (subst (λ i. GroundStands (g.A.Arith.width c.args.arith) i [] c.in-Ok.ground) c.deref.ensures c.in-Ok.ensures.stands)
+
+pub returns-in-Ok-clause-built : goal.returns-in-Ok-clause-built
+returns-in-Ok-clause-built g c = stands_built (g.A.Arith.width c.args.arith) _ (returns-in-Ok-clause-stands g c)
+
+pub returns-in-Ok-clause-factors : goal.returns-in-Ok-clause-factors
+returns-in-Ok-clause-factors g c calm = c.in-Ok.ensures.factors (subst (IsCalm (g.A.Arith.width c.args.arith)) (sym c.deref.ensures) calm)
+
+pub returns-in-Ok-clause-fits : goal.returns-in-Ok-clause-fits
+returns-in-Ok-clause-fits g c calm = c.in-Ok.ensures.fits (subst (IsCalm (g.A.Arith.width c.args.arith)) (sym c.deref.ensures) calm)
+
+pub returns-in-Ok-clause-work : goal.returns-in-Ok-clause-work
+returns-in-Ok-clause-work g c calm =
+    subst (λ i. g.A.Arith.work_count c.begin.new.arith ≤ g.A.Arith.work_count c.args.arith + (stored_entries i + making_work i)) c.deref.ensures
+    (c.in-Ok.ensures.work (subst (IsCalm (g.A.Arith.width c.args.arith)) (sym c.deref.ensures) calm))
+
+pub returns-in-Err-clause-refused : goal.returns-in-Err-clause-refused
+returns-in-Err-clause-refused g c calm =
+    let there = subst (IsCalm (g.A.Arith.width c.args.arith)) (sym c.deref.ensures) calm in
+    (c.in-Err.ensures.memory there, c.in-Err.ensures.fits there)

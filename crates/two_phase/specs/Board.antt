@@ -1,0 +1,200 @@
+-- The board of a run: what stands on it between any two calls, and what its calls answer.
+use Rattle.std.specs.Prelude.{◌≡◌, ◌≢◌, ℕ, ◌+◌, ◌<◌, ◌≤◌, ◌==◌, List, [], ◌∷◌, ◌++◌, length, Option, Some, None, true, false, if◌then◌else◌}
+use Rattle.lp_model.specs.declared.Entry.{Entry}
+use Rattle.lp_model.specs.declared.Entry.TheVariants.{Flip, Swap, Turn}
+use Rattle.lp_model.specs.declared.Place.{Place}
+use Rattle.lp_model.specs.Log.{moves}
+use Rattle.rational.specs.Rational.{ℚ}
+use Rattle.rational.specs.Worked.{settle}
+use Rattle.exact_frac.specs.Count.{raised}
+use Rattle.lp_run.specs.Instance.{Instance, IsWellFormed, row_count}
+use Rattle.lp_run.specs.Listing.{IsFirstTotal, IsFirstUnfit, StartFits}
+use Rattle.lp_run.specs.Run.{IsRun, IsSpent}
+use Rattle.lp_run.specs.Solution.{basis_entry}
+use Rattle.lp_run.specs.State.{State}
+use Rattle.lp_run.specs.Step.{EndsFree, EndsInfeasible, EndsOptimal, IsNext}
+use Rattle.bland_ratio.specs.Pricing.{IsExactChoice}
+use Rattle.bland_ratio.specs.declared.tickets.Choice.{Choice}
+use Rattle.factor_model.specs.Factors.{AreFactors, Factors, most_updates}
+use Rattle.factor_run.specs.Built.{built}
+use Rattle.two_phase.specs.declared.board.Board.{Board}
+use Rattle.two_phase.specs.declared.ground.Ground.{Ground}
+use Rattle.two_phase.specs.declared.ground.Ground.TheVariants as ground
+use Rattle.two_phase.specs.declared.standing.BoardFault.{BoardFault}
+use Rattle.two_phase.specs.declared.standing.BoardFault.TheVariants as fault
+use Rattle.two_phase.specs.declared.standing.Course.{Course}
+use Rattle.two_phase.specs.declared.standing.Course.TheVariants as course
+use Rattle.two_phase.specs.declared.standing.Mode.TheVariants as mode
+use Rattle.two_phase.specs.declared.standing.Recorded.{Recorded}
+use Rattle.two_phase.specs.declared.standing.Recorded.TheVariants as recorded
+use Rattle.two_phase.specs.declared.standing.Standing.{Standing}
+use Rattle.two_phase.specs.declared.standing.Standing.TheVariants as standing
+use Rattle.two_phase.specs.Inner.Grounds.{GroundStands, GroundStops, HasCause, ground_state}
+use Rattle.two_phase.specs.Modes.{mode_of}
+use Rattle.two_phase.specs.Standing.{course_after, standing_of}
+use Rattle.two_phase.specs.declared.reached.Reached.{Reached}
+
+-- ── what is seen of a board ──
+
+-- what holds of the factors, where the board works with factors
+abbrev pub OnFactors : Ground → (State → Factors → Type 0) → Type 0
+OnFactors (ground.Factors it) P = P it.state it.factors
+OnFactors (ground.Plain t) P = Unit {0}
+
+-- the run has come so far at the state that is stood on
+abbrev pub HasCome : Instance → ℕ → Ground → Course → Type 0
+HasCome inst budget g course.Running = Unit {0}
+HasCome inst budget g (course.Ended end) = GroundStops inst g end
+HasCome inst budget g course.Spent = IsSpent inst budget
+
+-- these are the updates that the factors have had, and the number at which they were made
+abbrev pub AreCounts : ℕ → ℕ → State → Factors → Type 0
+AreCounts updates epoch s f = (f.updates ≡ updates) × (f.base ≡ epoch)
+
+-- the standing is that of the state s: at an end it has the end's equations
+abbrev pub IsStandingOf : Instance → ℕ → State → Standing → Type 0
+IsStandingOf inst budget s standing.Running = Unit {0}
+IsStandingOf inst budget s standing.Optimal = (y β : List ℚ) × EndsOptimal inst s y β
+IsStandingOf inst budget s standing.Infeasible = (y β : List ℚ) × EndsInfeasible inst s y β
+IsStandingOf inst budget s standing.Unbounded = (y β α : List ℚ) × (q : ℕ) × EndsFree inst s y β α q
+IsStandingOf inst budget s standing.Spent = IsSpent inst budget
+
+-- what a step comes to is noted, with the counts of the factors where there are some
+abbrev pub noted_course : Option Reached → Course → Course
+noted_course None before = before
+noted_course (Some reached) before = course_after reached
+
+abbrev pub noted_epoch : Ground → ℕ → ℕ
+noted_epoch (ground.Factors it) before = it.factors.base
+noted_epoch (ground.Plain t) before = before
+
+abbrev pub noted_updates : Ground → ℕ → ℕ
+noted_updates (ground.Factors it) before = it.factors.updates
+noted_updates (ground.Plain t) before = before
+
+-- where there are factors before and after, they are the same
+abbrev pub KeepsFactors : Ground → Ground → Type 0
+KeepsFactors old new = OnFactors new (λ s f. OnFactors old (λ before g. f ≡ g))
+
+-- why no board is made: an overflow has the place of the first value of the making that does not fit
+abbrev pub IsStartCause : ℕ → Instance → ℕ → ℕ → BoardFault → Type 0
+IsStartCause w inst before after fault.Memory = Unit {0}
+IsStartCause w inst before after (fault.Overflow here) = ((s : State) × IsRun inst [] s × IsFirstUnfit w inst [] s here) × (raised before 1 ≤ after)
+IsStartCause w inst before after (fault.Stale n) = ⊥
+IsStartCause w inst before after (fault.Ended s) = ⊥
+
+abbrev pub state_of : {A : Type 0} → Board A → State
+state_of b = ground_state b.ground
+
+abbrev pub number_of : {A : Type 0} → Board A → ℕ
+number_of b = length b.log
+
+abbrev pub standing_on : {A : Type 0} → Board A → Standing
+standing_on b = standing_of b.course
+
+-- ── what stands on a board at the width w, between any two calls ──
+
+pub record BoardStands {A : Type 0} (w : ℕ) (b : Board A) : Type 0 where
+  pub well_formed : IsWellFormed b.inst.value
+  pub fits : StartFits w b.inst.value
+  -- the log leads to the state that is stood on, within the budget
+  pub stands : GroundStands w b.inst.value b.log b.ground
+  pub within : moves b.log ≤ b.budget
+  pub come : HasCome b.inst.value b.budget b.ground b.course
+  pub counts : OnFactors b.ground (AreCounts b.updates b.epoch)
+  pub early : b.epoch ≤ length b.log
+
+-- the factors are of the state's basis, with at most 64 updates on a factorisation of a number not above the board's
+abbrev pub HasFactors : {A : Type 0} → Board A → Type 0
+HasFactors b = OnFactors b.ground (λ s f. AreFactors (row_count b.inst.value) f (basis_entry b.inst.value s) × (f.updates ≤ most_updates) × (f.base ≤ length b.log))
+
+-- the factors are those that are built along the log
+abbrev pub AreBuilt : {A : Type 0} → ℕ → Board A → Type 0
+AreBuilt w b = OnFactors b.ground (λ s f. settle w (built b.inst.value b.log) ≡ Some (Some f))
+
+-- no value that is worked at the state is a cause to give the factors up
+abbrev pub HasNoCause : {A : Type 0} → ℕ → Board A → Type 0
+HasNoCause w b = HasCause w b.inst.value b.log b.ground → ⊥
+
+-- ── what a call leaves ──
+
+pub record IsSameRun {A : Type 0} (old new : Board A) : Type 0 where
+  pub instance : new.inst ≡ old.inst
+  pub budget : new.budget ≡ old.budget
+  -- the plain table stays
+  pub plain_stays : mode_of old.ground ≡ mode.Plain → mode_of new.ground ≡ mode.Plain
+
+-- log, state, standing, counts and, while there are some, the factors are as they were
+pub record IsUnmoved {A : Type 0} (old new : Board A) : Type 0 where
+  pub log : new.log ≡ old.log
+  pub state : state_of new ≡ state_of old
+  pub course : new.course ≡ old.course
+  pub epoch : new.epoch ≡ old.epoch
+  pub updates : new.updates ≡ old.updates
+  pub factors : KeepsFactors old.ground new.ground
+
+-- the factors are given up for a cause alone, a value that is worked with them and does not fit
+abbrev pub HasGivenUp : {A : Type 0} → ℕ → Board A → Board A → Type 0
+HasGivenUp w old new = mode_of new.ground ≡ mode.Plain → HasCause w old.inst.value old.log old.ground
+
+-- the choice is exact for a state of the run, of a number not above the board's
+abbrev pub IsChoiceFor : {A : Type 0} → ℕ → Board A → Choice → Type 0
+IsChoiceFor w b choice = (front later : List Entry) × (s : State) × (b.log ≡ front ++ later) × (length front ≡ choice.number) × IsRun b.inst.value front s × IsExactChoice w b.inst.value s choice
+
+-- how the counts of the factors follow an entry: after 64 updates a swap makes them anew at the new number
+abbrev pub FollowsSwap : {A : Type 0} → Board A → Board A → Type 0
+FollowsSwap old new =
+    (new.epoch ≡ (if old.updates == most_updates then length new.log else old.epoch)) × (new.updates ≡ (if old.updates == most_updates then 0 else old.updates + 1))
+
+abbrev pub KeepsCounts : {A : Type 0} → Board A → Board A → Type 0
+KeepsCounts old new = (new.epoch ≡ old.epoch) × (new.updates ≡ old.updates)
+
+abbrev pub FollowsEntry : {A : Type 0} → Board A → Board A → Entry → Type 0
+FollowsEntry old new (Flip q) = KeepsCounts old new
+FollowsEntry old new (Swap q p end) = (mode_of new.ground ≡ mode.Factors → FollowsSwap old new) × (mode_of new.ground ≡ mode.Plain → KeepsCounts old new)
+FollowsEntry old new Turn = KeepsCounts old new
+
+-- what a record comes to
+abbrev pub Records : {A : Type 0} → Board A → Board A → Choice → Recorded → Type 0
+Records old new choice (recorded.Entry e) = IsNext old.inst.value (state_of old) e × (new.log ≡ old.log ++ e ∷ []) × (standing_on new ≡ standing.Running) × FollowsEntry old new e
+Records old new choice recorded.Rescued = (choice.unfit ≡ true) × (mode_of old.ground ≡ mode.Factors) × (mode_of new.ground ≡ mode.Plain) × IsUnmoved old new
+Records old new choice (recorded.Ended s) = (s ≢ standing.Running) × (standing_on new ≡ s) × (new.log ≡ old.log) × KeepsCounts old new
+
+abbrev pub noted : {A : Type 0} → Option Reached → Board A → Board A
+noted gone b = record b { course = noted_course gone b.course; epoch = noted_epoch b.ground b.epoch; updates = noted_updates b.ground b.updates }
+
+-- the run has ended, within the budget
+abbrev pub HasEnded : {A : Type 0} → Board A → Type 0
+HasEnded b = (standing_on b ≢ standing.Running) × (standing_on b ≢ standing.Spent)
+
+-- ── why a call is refused ──
+
+-- an overflow has the place of the first value up to the board's number that does not fit, and the count of unfit results has risen
+abbrev pub IsFirstOf : {A : Type 0} → ℕ → Board A → ℕ → ℕ → Place → Type 0
+IsFirstOf w b before after here = ((s : State) × IsRun b.inst.value b.log s × IsFirstUnfit w b.inst.value b.log s here) × (raised before 1 ≤ after)
+
+abbrev pub IsTicketCause : {A : Type 0} → ℕ → Board A → ℕ → ℕ → BoardFault → Type 0
+IsTicketCause w b before after fault.Memory = Unit {0}
+IsTicketCause w b before after (fault.Overflow here) = IsFirstOf w b before after here × HasCause w b.inst.value b.log b.ground
+IsTicketCause w b before after (fault.Stale n) = ⊥
+IsTicketCause w b before after (fault.Ended s) = (s ≡ standing_on b) × (s ≢ standing.Running)
+
+-- of a choice of the board's own state
+abbrev pub IsTakingCause : {A : Type 0} → ℕ → Board A → Choice → ℕ → ℕ → BoardFault → Type 0
+IsTakingCause w b choice before after fault.Memory = Unit {0}
+IsTakingCause w b choice before after (fault.Overflow here) = IsFirstOf w b before after here × (choice.unfit ≡ false → HasCause w b.inst.value b.log b.ground)
+IsTakingCause w b choice before after (fault.Stale n) = ⊥
+IsTakingCause w b choice before after (fault.Ended s) = ⊥
+
+abbrev pub IsRecordCause : {A : Type 0} → ℕ → Board A → Choice → ℕ → ℕ → BoardFault → Type 0
+IsRecordCause w b choice before after fault.Memory = Unit {0}
+IsRecordCause w b choice before after (fault.Overflow here) = IsFirstOf w b before after here × (choice.unfit ≡ false → HasCause w b.inst.value b.log b.ground)
+IsRecordCause w b choice before after (fault.Stale n) = (standing_on b ≡ standing.Running) × (n ≡ length b.log) × (choice.number < n)
+IsRecordCause w b choice before after (fault.Ended s) = (s ≡ standing_on b) × (s ≢ standing.Running)
+
+-- at the close it is the first sum of the objective
+abbrev pub IsClosingCause : {A : Type 0} → ℕ → Board A → ℕ → ℕ → BoardFault → Type 0
+IsClosingCause w b before after fault.Memory = Unit {0}
+IsClosingCause w b before after (fault.Overflow here) = IsFirstTotal w b.inst.value b.log (state_of b) here × (raised before 1 ≤ after)
+IsClosingCause w b before after (fault.Stale n) = ⊥
+IsClosingCause w b before after (fault.Ended s) = ⊥
