@@ -75,7 +75,8 @@ module _ {A : Type 0} (w : ℕ) (b : Board A) where
     calm_chosen choice (front, later, s, is, number, run, exact) = no_unfit_choice w b.inst.value calm front s run choice exact
 
 -- after a ticket
-module _ {A : Type 0} (w w' : ℕ) (width : w' ≡ w) (old asked : Board A) (h : BoardStands w old) (calm : IsCalm w old.inst.value) (factors : IsPlain old.ground → ⊥) (h' : BoardStands w asked) (same : IsSameRun old asked)
+module _ {A : Type 0} (w w' : ℕ) (width : w' ≡ w) (old asked : Board A) (h : BoardStands w old) (calm : IsCalm w old.inst.value) (factors : IsPlain old.ground → ⊥)
+    (h' : BoardStands w asked) (same : IsSameRun old asked)
     (given : HasGivenUp w old asked) where
   calm_there : IsCalm w' asked.inst.value
   calm_there = subst (λ w. IsCalm w asked.inst.value) (sym width) (subst (λ i. IsCalm w i.value) (sym same.instance) calm)
@@ -95,15 +96,15 @@ pub on_ok_all : {A E : Type 0} {P : Type 0} (r : Result A E) → P → OnOk r P
 on_ok_all (Ok a) p = p
 on_ok_all (Err e) p = tt
 
--- the run and its close, counted together
+-- the run and its close, counted together; the stored entries may be worked once more
 pub whole_solve : {A : Type 0} (w : ℕ) (old new : Board A) → new.inst ≡ old.inst → BoardStands w new → (made a₀ b₁ a₁ a₂ : ℕ)
     → HasWorked old.inst.value new.log (length new.log + 1) new.updates (made + a₀) (b₁ + a₁) → made ≤ stored_entries old.inst.value + making_work old.inst.value
-    → (moved : ℕ) → moved ≡ moves new.log → a₂ ≤ a₁ + (b₁ + cost_count new.inst.value) → a₂ ≤ a₀ + solve_work old.inst.value moved
+    → (moved : ℕ) → moved ≡ moves new.log → a₂ ≤ a₁ + (b₁ + cost_count new.inst.value) → a₂ + stored_entries old.inst.value ≤ a₀ + solve_work old.inst.value moved
 whole_solve w old new same stands made a₀ b₁ a₁ a₂ (spent, tally, within) start moved is work =
     let inst = old.inst.value in
     let run : IsRun inst new.log (state_of new) = subst (λ i. IsRun (arc_value i) new.log (state_of new)) same (reached_by w new.inst.value new.log new.ground stands.stands) in
     let close : a₂ ≤ a₁ + (b₁ + cost_count inst) = subst (λ i. a₂ ≤ a₁ + (b₁ + cost_count (arc_value i))) same work in
-    let all : a₂ - a₀ ≤ solve_work inst (moves new.log) =
+    let all : a₂ - a₀ + stored_entries inst ≤ solve_work inst (moves new.log) =
     whole_work inst new.log (state_of new) run new.updates made spent (cost_count inst) (a₂ - a₀) tally start (omega (arith, costs_are inst)) (omega (arith, close, within)) in
     let there : solve_work inst (moves new.log) ≡ solve_work inst moved = ap (solve_work inst) (sym is) in
     omega (arith, all, there)

@@ -8,7 +8,7 @@
 //! the width of the arithmetic, a run with more moves than the budget, or want of memory. It waits for nobody, and ends by
 //! Bland's theorem. On a calm instance (`IsCalm` of `factor_run`), where each value fits that is worked over factors, the count
 //! of unfit results stays, only a spent budget or want of memory refuses, and at most `solve_work` products and quotients
-//! are worked.
+//! are worked, less one for each stored entry, which is left to the making of the instance.
 //!
 //! It stands on `two_phase` for the board, whose rounds it makes, on `bland_ratio` for choices, on `bland_laws` for the end of
 //! runs, and on `instance_model` and `exact_frac`.

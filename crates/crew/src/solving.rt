@@ -32,7 +32,8 @@ use two_phase::{Board, BoardFault, CloseFault, Closed, NewFault, Recorded, Stand
 /// is worked with them does not fit the width, on a plain table, whose rows are worked in several threads where it is large.
 /// The counts of all arithmetic used come into `arith`. On a calm instance, of m rows and so many entries (the stored entries of
 /// the structurals and their costs that are not 0), no result is unfit, and a run of so many moves takes at most
-/// (moves + 4)·(4m² + 256m + entries) + (moves/64 + 1)·m³ products and quotients.
+/// (moves + 4)·(4m² + 256m + entries) + (moves/64 + 1)·m³ products and quotients, less one for each stored entry, which is left
+/// to the making of the instance.
 ///
 /// # Errors
 ///
@@ -50,7 +51,7 @@ pub fn solve_alone<R: Threads + Sync, A: Arith>(
     ensures width { A.width arith.new ≡ A.width arith.old }
     ensures unfit { A.unfit_count arith.old ≤ A.unfit_count arith.new }
     ensures calm { IsCalm (A.width arith.old) inst.value → (A.unfit_count arith.new ≡ A.unfit_count arith.old) × IfErr result IsCalmFault }
-    ensures work { IsCalm (A.width arith.old) inst.value → IfOk result (λ closed. A.work_count arith.new ≤ A.work_count arith.old + solve_work inst.value closed.moves) }
+    ensures work { IsCalm (A.width arith.old) inst.value → IfOk result (λ closed. A.work_count arith.new + stored_entries inst.value ≤ A.work_count arith.old + solve_work inst.value closed.moves) }
 {
     match Board::new(alloc, inst, budget, arith.fresh()) {
         Ok(board) => go_on(rt, alloc, budget, board, arith),
@@ -78,7 +79,7 @@ fn go_on<R: Threads + Sync, A: Arith>(
     ensures unfit { A.unfit_count arith.old ≤ A.unfit_count arith.new }
     ensures calm { IsCalm (A.width arith.old) board.inst.value → IsFresh board → A.unfit_count board.arith ≡ 0 → (A.unfit_count arith.new ≡ A.unfit_count arith.old) × IfErr result IsCalmFault }
     ensures work { IsCalm (A.width arith.old) board.inst.value → IsFresh board → A.work_count board.arith ≤ stored_entries board.inst.value + making_work board.inst.value
-        → IfOk result (λ closed. A.work_count arith.new ≤ A.work_count arith.old + solve_work board.inst.value closed.moves) }
+        → IfOk result (λ closed. A.work_count arith.new + stored_entries board.inst.value ≤ A.work_count arith.old + solve_work board.inst.value closed.moves) }
 {
     let mut board = board;
     match run(rt, alloc, budget, &mut board, arith) {

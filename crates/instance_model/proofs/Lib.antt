@@ -1,5 +1,6 @@
 pub mod Lists
 pub mod Made
+pub mod Products
 pub mod Sums
 pub mod Starts
 pub mod Whole

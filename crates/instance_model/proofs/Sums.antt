@@ -1,8 +1,8 @@
 -- The start sums of a row as they are worked.
 use Rattle.std.proofs.Common.{◌≡◌, ℕ, suc, ◌+◌, ◌<◌, ◌≤◌, List, [], ◌++◌, get_or, cond, Bool, true, false, Option, Some, None, refl}
-use Rattle.std.proofs.Common.{sym, ◌∙◌, ap, ap₂, subst, arith, IsErrAnd, Result, eqb, length, ◌∷◌, All, IsTrue, ◌↔◌, drop, inr, not, zero}
+use Rattle.std.proofs.Common.{sym, ◌∙◌, ap, ap₂, subst, arith, IsErrAnd, Result, length, ◌∷◌, All, IsTrue, ◌↔◌, drop, inr, not, zero}
 use Rattle.std.proofs.lemmas.List.{get_or-map, length-map, append-nil, at_drop_all, at_drop_more}
-use Rattle.std.specs.Option.{option_map, unwrap_or}
+use Rattle.std.specs.Option.{option_map}
 use Rattle.std.specs.declared.cmp.Ordering.TheVariants.{Less, Equal, Greater}
 use Rattle.lp_model.specs.declared.Kind.TheVariants as kind
 use Rattle.lp_model.specs.declared.Place.{Place}
@@ -23,7 +23,6 @@ use Rattle.rational.proofs.WidthLaws.{fits_width-decides, unfit_tested}
 use Rattle.lp_run.specs.Instance.{Instance, Structural, equations_of, logical, no_structural, range_sum, residual, start_value, structural, structural_count, structural_of}
 use Rattle.lp_run.specs.Listing.{AllFit, Listed, first_unfit, listed_at, place, start_sums, Judges}
 use Rattle.lp_run.proofs.FirstUnfit.{all-append, fit-append, fit-placed, one-fits, one-unfit, unfit-append, unfit-placed}
-use Rattle.sparse_cols.specs.Sparse.{value_at}
 use Rattle.instance_model.specs.Inner.Starts.{excess_listing, range_shift, row_place, row_start, side_past, takings, off_zero, starts_off}
 use Rattle.std.proofs.lemmas.Result.{err_from_is_err_and}
 use Rattle.std.specs.List.{filter, range_with_len}

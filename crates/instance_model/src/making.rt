@@ -1,9 +1,9 @@
 //! How an instance is made of a deck, and why none is.
-ghost use Rattle.std.specs.Prelude.{◌≡◌, ◌<◌, ◌≤◌, map, length, IfOk};
+ghost use Rattle.std.specs.Prelude.{◌≡◌, ◌+◌, ◌<◌, ◌≤◌, map, length, sum_by, IfOk};
 ghost use Rattle.lp_model.specs.Deck.{IsDeck, column as column_at, logical_bounds as logical_bounds_at};
 ghost use Rattle.lp_run.specs.Instance.{equations_of, instance_of};
 ghost use Rattle.lp_run.specs.Listing.{start_listing};
-ghost use Rattle.instance_model.specs.Inner.Starts.{JudgesOrWants, part_of, row_start as row_start_of};
+ghost use Rattle.instance_model.specs.Inner.Starts.{JudgesOrWants, part_of, row_products, row_start as row_start_of};
 ghost use Rattle.instance_model.specs.Making.{MakesInstance, unfit_after_making};
 ghost use Rattle.rational.specs.Sparse.{upto};
 
@@ -70,7 +70,8 @@ impl From<Place> for InstanceFault {
 
 impl Instance {
     /// The instance of a deck. All start sums are worked, row by row: what the structurals at their start take from the
-    /// right side, how far the rest passes an end of the logical's bounds, and the end that the range gives.
+    /// right side, how far the rest passes an end of the logical's bounds, and the end that the range gives. That takes at
+    /// most one product for each stored entry of the structurals.
     ///
     /// # Errors
     ///
@@ -84,6 +85,7 @@ impl Instance {
         ensures made { MakesInstance (A.width arith.old) deck.now result }
         ensures width { A.width arith.new ≡ A.width arith.old }
         ensures unfit { A.unfit_count arith.new ≡ unfit_after_making (A.unfit_count arith.old) result }
+        ensures work { A.work_count arith.new ≤ A.work_count arith.old + sum_by (λ c. length c.entries) (instance_of deck.now).structurals }
     {
         let right = right_sides(alloc, deck)?;
         let structurals = structurals(alloc, deck)?;
@@ -159,6 +161,7 @@ fn row_starts<A: Arith>(
     ensures value { IfOk result (λ starts. starts.items ≡ map (row_start_of deck.now) (upto (length deck.now.rows))) }
     ensures width { A.width arith.new ≡ A.width arith.old }
     ensures unfit { A.unfit_count arith.new ≡ unfit_after_making (A.unfit_count arith.old) result }
+    ensures work { A.work_count arith.new ≤ A.work_count arith.old + sum_by (row_products (equations_of deck.now)) (upto (length deck.now.rows)) }
 {
     let moved = columns_off_zero(alloc, deck)?;
     let mut starts = Vec::with_capacity(alloc, deck.rows())?;

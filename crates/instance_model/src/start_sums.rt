@@ -1,19 +1,21 @@
 //! The start sums of a row: its right side less the structurals at their start, how far that passes an end of the
 //! logical's bounds, and the end that the range gives.
-ghost use Rattle.std.specs.Prelude.{◌≡◌, ◌<◌, ◌≤◌, ◌^◌, length, IfOk, Some};
+ghost use Rattle.std.specs.Prelude.{◌≡◌, ◌+◌, ◌<◌, ◌≤◌, ◌^◌, length, IfOk, Some};
 ghost use Rattle.deck_model.specs.End.{finite_end};
 ghost use Rattle.exact_frac.specs.Count.{unfit_after};
+ghost use Rattle.exact_frac.specs.Settles.{Settles};
 ghost use Rattle.lp_model.specs.declared.Kind.TheVariants as kind;
 ghost use Rattle.lp_model.specs.Deck.{column as column_at, logical_bounds as logical_bounds_at, logical_bounds_of, row as row_at};
 ghost use Rattle.lp_run.specs.Instance.{equations_of, range_sum as range_sum_of, residual as residual_of, structural_count};
 ghost use Rattle.lp_run.specs.Listing.{listed_at, place, start_sums, Judges};
 ghost use Rattle.rational.specs.Sparse.{upto};
 ghost use Rattle.rational.specs.Sum.{at};
-ghost use Rattle.instance_model.specs.Inner.Starts.{excess_listing, off_zero, range_shift as shift_of, row_place as place_of_row, row_start as row_start_of, side_past, takings};
+ghost use Rattle.rational.specs.Worked.{less};
+ghost use Rattle.instance_model.specs.Inner.Starts.{excess_listing, off_zero, one_product, range_shift as shift_of, row_place as place_of_row, row_products, row_start as row_start_of, side_past, takings};
 
 use crate::bounds::Bounds;
 use deck_model::{Deck, End, MAX_COLUMNS};
-use exact_frac::{Arith, Frac};
+use exact_frac::{Arith, Frac, Unfit};
 use lp_model::{Kind, Place, RowKind, Side};
 use sparse_steps::{entry, less_product};
 use std::alloc::{AllocError, Global};
@@ -41,6 +43,7 @@ pub(crate) fn row_start<A: Arith>(
     ensures value { IfOk result (λ start. start ≡ row_start_of deck.now row) }
     ensures width { A.width arith.new ≡ A.width arith.old }
     ensures unfit { A.unfit_count arith.new ≡ unfit_after (A.unfit_count arith.old) result }
+    ensures work { A.work_count arith.new ≤ A.work_count arith.old + row_products (equations_of deck.now) row }
 {
     let rest = residual(deck, moved, row, arith)?;
     let passed = passed_side(logical_bounds(deck, row), rest, row, arith)?;
@@ -64,17 +67,31 @@ fn residual<A: Arith>(
     ensures value { IfOk result (λ rest. rest ≡ residual_of (equations_of deck.now) row) }
     ensures width { A.width arith.new ≡ A.width arith.old }
     ensures unfit { A.unfit_count arith.new ≡ unfit_after (A.unfit_count arith.old) result }
+    ensures work { A.work_count arith.new ≤ A.work_count arith.old + row_products (equations_of deck.now) row }
 {
     let mut rest = deck.right(row);
     for k in 0..moved.len() {
         let j = moved[k];
         let value = column_bounds(deck, j).start_value();
-        match less_product(rest, entry(deck.column(j), row), value, arith) {
+        match less_entry(rest, entry(deck.column(j), row), value, arith) {
             Ok(left) => rest = left,
             Err(_) => return Err(product_place(row, j)),
         }
     }
     Ok(rest)
+}
+
+// `rest` less the product of an entry and a start. An entry of 0 takes nothing, and costs no product.
+fn less_entry<A: Arith>(rest: Frac, entry: Frac, start: Frac, arith: &mut A) -> Result<Frac, Unfit>
+    ensures settled { Settles (A.width arith.old) (less rest entry start) result }
+    ensures width { A.width arith.new ≡ A.width arith.old }
+    ensures unfit { A.unfit_count arith.new ≡ unfit_after (A.unfit_count arith.old) result }
+    ensures work { A.work_count arith.new ≤ A.work_count arith.old + one_product entry }
+{
+    if entry.is_zero() {
+        return Ok(rest);
+    }
+    less_product(rest, entry, start, arith)
 }
 
 /// The columns that do not start at 0.
@@ -103,6 +120,7 @@ fn passed_side<A: Arith>(
     ensures value { IfOk result (λ side. side ≡ side_past bounds rest) }
     ensures width { A.width arith.new ≡ A.width arith.old }
     ensures unfit { A.unfit_count arith.new ≡ unfit_after (A.unfit_count arith.old) result }
+    ensures work { A.work_count arith.new ≡ A.work_count arith.old }
 {
     match bounds.passed_end(rest) {
         None => Ok(None),
@@ -121,6 +139,7 @@ fn range_sum<A: Arith>(deck: &Deck, row: usize, arith: &mut A) -> Result<Option<
     ensures value { IfOk result (λ sum. sum ≡ range_sum_of (row_at deck.now row)) }
     ensures width { A.width arith.new ≡ A.width arith.old }
     ensures unfit { A.unfit_count arith.new ≡ unfit_after (A.unfit_count arith.old) result }
+    ensures work { A.work_count arith.new ≡ A.work_count arith.old }
 {
     match range_shift(deck.row_kind(row), deck.range(row)) {
         None => Ok(None),

@@ -3,9 +3,8 @@ use Rattle.std.proofs.Common.{◌≡◌, ◌≢◌, ℕ, ◌≤◌, ◌⊎◌, L
 use Rattle.std.specs.Prelude.{IfSome, IsErrOf}
 use Rattle.lp_model.specs.Deck.{Deck}
 use Rattle.lp_run.specs.Instance.{instance_of}
-use Rattle.lp_run.specs.Listing.{RunFits}
 use Rattle.lp_model.specs.declared.Place.{Place}
-use Rattle.crew.proofs.Complete.{not_spent, not_unfit}
+use Rattle.crew.proofs.Complete.{not_spent}
 use Rattle.lp_text.specs.declared.Form.{Form}
 use Rattle.mps_model.specs.DeckOf.{HasFault, Reading, has_fault, is_deck, reading_of, TextFault}
 use Rattle.mps_reader.specs.declared.faults.DeckFault.{DeckFault}
@@ -28,14 +27,14 @@ use Rattle.lp_main.specs.FaultLines.{fault_line, reader_line}
 use Rattle.lp_main.specs.Refusal.{line_of, status_of_refusal}
 use Rattle.lp_main.specs.Runs.{MustAnswer, Runs}
 use Rattle.lp_main.specs.Says.{Says}
-use Rattle.lp_main.specs.Serves.{Answers, AnswersFault, EndsWithin, IsFirstFault, IsOverBudget, IsOverflow, IsOrMemory, Reports}
+use Rattle.lp_main.specs.Serves.{Answers, AnswersFault, EndsWithin, FitsRun, IsFirstFault, IsOverBudget, IsOverflow, IsOrMemory, Reports}
 use Rattle.lp_main.specs.Solves.{IsCause}
 use Rattle.lp_main.specs.Layouts.{AnswersDeck, IsLayoutCause}
 use Rattle.lp_main.specs.Summaries.{IsSummaryCause, summary_budget}
 use Rattle.lp_main.specs.World.{Stream, world}
 use Rattle.lp_main.proofs.FirstFaults.{named}
 use Rattle.lp_main.proofs.LayoutEnds.{by_layout, laid_out, memory_for_layout, not_laid_out}
-use Rattle.lp_main.proofs.SummaryEnds.{by_summary, memory_for_summary}
+use Rattle.lp_main.proofs.SummaryEnds.{by_summary, memory_for_summary, not_wide}
 
 -- what was said is the refusal, or want of memory
 abbrev pub Said : Refusal → Status → Stream → Stream → Type 0
@@ -132,9 +131,9 @@ module _ (asked : Asked) (w : ℕ) (SaidOf : List ℕ → Type 0) where
 
   -- what the deck of a text may answer, the text may
   for_reading : (reading : Reading) (d : Deck) (line : ℕ) (s : Status) → reading ≡ is_deck d line
-      → (EndsWithin asked.budget d → RunFits w (instance_of d) → IsOrMemory s status.Done) → Answers asked w reading s SaidOf
+      → (EndsWithin asked.budget d → FitsRun w d → IsOrMemory s status.Done) → Answers asked w reading s SaidOf
   for_reading (has_fault fault) d line s e h = absurd (cc e)
-  for_reading (is_deck d' k) d line s e h = subst (λ d. EndsWithin asked.budget d → RunFits w (instance_of d) → IsOrMemory s status.Done) (sym (same_deck d' d k line e)) h
+  for_reading (is_deck d' k) d line s e h = subst (λ d. EndsWithin asked.budget d → FitsRun w d → IsOrMemory s status.Done) (sym (same_deck d' d k line e)) h
 
   answered_done : (text old new : Option (List ℕ)) → IfSome text (Reports asked old new) → IfSome text (λ t. May t status.Done)
   answered_done None old new h = tt
@@ -154,8 +153,8 @@ module _ (asked : Asked) (w : ℕ) (SaidOf : List ℕ → Type 0) where
 
   answered_overflow : (text : Option (List ℕ)) (here : Place) → IfSome text (IsOverflow asked w here) → IfSome text (λ t. May t status.Overflow)
   answered_overflow None here h = tt
-  answered_overflow (Some t) here (d, line, read, overflows) =
-      for_reading (reading_of asked.form t) d line status.Overflow read (λ has fits. absurd (not_unfit (instance_of d) w asked.budget here fits overflows))
+  answered_overflow (Some t) here (d, line, read, overflows, wide) =
+      for_reading (reading_of asked.form t) d line status.Overflow read (λ has fits. absurd (not_wide w asked.budget d here fits (overflows, wide)))
 
   answered_budget : (text : Option (List ℕ)) (n : ℕ) → IfSome text (IsOverBudget asked n) → IfSome text (λ t. May t status.Budget)
   answered_budget None n h = tt
@@ -289,7 +288,7 @@ module _ (w : ℕ) (input input' output output' : Stream) (in_falls : input.faul
         (not_laid_out form (Says errors errors') text)
 
     summary_refused : (n : ℕ) → IsSummaryCause n w output.bytes output'.bytes r → Said r s errors errors' → (¬ Rose output.faults output'.faults)
-        → EndsWithin summary_budget (transport n) → RunFits w (instance_of (transport n)) → IsOrMemory s status.Done
+        → EndsWithin summary_budget (transport n) → FitsRun w (transport n) → IsOrMemory s status.Done
     summary_refused n cause (said, inl is, ended, says) no_write has fits =
         subst (λ s. IsOrMemory s status.Done) (sym (ended ∙ ap status_of_refusal is))
         (by_summary n w output.bytes output'.bytes r (Rose output.faults output'.faults) cause (λ same. rose_out (ap Err same)) no_write has fits)

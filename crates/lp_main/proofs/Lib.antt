@@ -1,3 +1,4 @@
+pub mod Working
 pub mod Reporting
 pub mod Solving
 pub mod FirstFaults

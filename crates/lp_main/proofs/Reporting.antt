@@ -14,6 +14,7 @@ use Rattle.lp_run.specs.Instance.{Instance, instance_of, structural_count}
 use Rattle.lp_run.specs.Listing.{Overflows, first_unfit, start_listing}
 use Rattle.lp_run.specs.Run.{IsRun}
 use Rattle.lp_run.specs.State.{State}
+use Rattle.factor_run.specs.Calm.{IsCalm}
 use Rattle.bland_laws.specs.OutcomeProves.{OutcomeProves}
 use Rattle.bland_laws.proofs.OfDeck.{row_count_is, structural_count_is, well_formed}
 use Rattle.bland_laws.proofs.OutcomeProves.{outcome_proves}
@@ -32,6 +33,7 @@ use Rattle.lp_main.specs.declared.refusal.Refusal.TheVariants as refusal
 use Rattle.lp_main.specs.declared.words.Asked.{Asked}
 use Rattle.lp_main.specs.Serves.{Means, stated}
 use Rattle.lp_main.specs.Solves.{IsReportCause, IsReportOf}
+use Rattle.lp_main.proofs.Working.{start_not_calm}
 
 -- ── the outcome's lists ──
 
@@ -97,8 +99,8 @@ module _ (d : Deck) (deck : IsDeck d) where
   report_is asked inst same closed has (Err e) h = tt
 
   module _ (asked : Asked) (w : ℕ) (inst : Instance) (same : inst ≡ instance_of d) where
-    pub overflow_cause : (here : Place) → Overflows w asked.budget inst here → IsReportCause asked w d (refusal.Overflow here)
-    overflow_cause here h = subst (λ inst. Overflows w asked.budget inst here) same h
+    pub overflow_cause : (here : Place) → Overflows w asked.budget inst here → (¬ IsCalm w inst) → IsReportCause asked w d (refusal.Overflow here)
+    overflow_cause here h wide = (subst (λ inst. Overflows w asked.budget inst here) same h, subst (λ inst. ¬ IsCalm w inst) same wide)
 
     pub budget_cause : (n : ℕ) → IsCrewCause w inst asked.budget (fault.Budget n) → IsReportCause asked w d (refusal.Budget n)
     budget_cause n h =
@@ -106,4 +108,4 @@ module _ (d : Deck) (deck : IsDeck d) where
         (there.0, there.1, spent_below (instance_of d) (well_formed d deck) asked.budget there.1)
 
   pub start_cause : (asked : Asked) (w : ℕ) (here : Place) → first_unfit w (start_listing (instance_of d)) ≡ Some here → IsReportCause asked w d (refusal.Overflow here)
-  start_cause asked w here first = start_overflows w asked.budget (instance_of d) here (well_formed d deck) first
+  start_cause asked w here first = (start_overflows w asked.budget (instance_of d) here (well_formed d deck) first, start_not_calm w d here first)

@@ -38,9 +38,10 @@ module _ (asked : Asked) (old new : Option (List ℕ)) (d : Deck) (report : Repo
   unwritten_cause w (Err r) e text left read cause appended is =
       subst (IsCause asked w text left old new) (sym is) (write_cause w text left e cause (begins text read appended))
 
-pub report_cause : (asked : Asked) (w : ℕ) (e : Refusal) (text left old : Option (List ℕ)) (d : Deck) → IfSome text (λ t. IsRead asked.form t d) → IsReportCause asked w d e → IsCause asked w text left old old e
+pub report_cause : (asked : Asked) (w : ℕ) (e : Refusal) (text left old : Option (List ℕ)) (d : Deck)
+    → IfSome text (λ t. IsRead asked.form t d) → IsReportCause asked w d e → IsCause asked w text left old old e
 report_cause asked w (refusal.Overflow here) None left old d read cause = (tt, refl)
-report_cause asked w (refusal.Overflow here) (Some t) left old d read cause = ((d, read.0, read.1, cause), refl)
+report_cause asked w (refusal.Overflow here) (Some t) left old d read cause = ((d, read.0, read.1, cause.0, cause.1), refl)
 report_cause asked w (refusal.Budget n) None left old d read cause = (tt, refl)
 report_cause asked w (refusal.Budget n) (Some t) left old d read cause = ((cause.0, d, read.0, read.1, cause.1, cause.2), refl)
 report_cause asked w refusal.Memory text left old d read cause = inl refl

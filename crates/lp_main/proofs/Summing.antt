@@ -16,6 +16,7 @@ use Rattle.lp_run.specs.Instance.{instance_of}
 use Rattle.lp_run.specs.Listing.{Overflows}
 use Rattle.lp_run.specs.Run.{IsSpent}
 use Rattle.bland_laws.specs.Ends.{run_bound}
+use Rattle.factor_run.specs.Calm.{IsCalm}
 use Rattle.lp_text.specs.declared.Form.TheVariants.{Fixed}
 use Rattle.lp_main.specs.declared.refusal.Refusal.{Refusal}
 use Rattle.lp_main.specs.declared.refusal.Refusal.TheVariants as refusal
@@ -51,7 +52,11 @@ summed_up n d made r is text reads (x, y, v, e) =
 
 module _ (n : ℕ) (d : Deck) (made : d ≡ transport n) (w : ℕ) (old : Option (List ℕ)) where
   unsolved : (e : Refusal) → IsReportCause all_moves w d e → IsSummaryCause n w old old e
-  unsolved (refusal.Overflow here) cause = (subst (λ d. Overflows w summary_budget (instance_of d) here) made cause, refl)
+  unsolved (refusal.Overflow here) cause = (
+    subst (λ d. Overflows w summary_budget (instance_of d) here) made cause.0,
+    subst (λ d. ¬ IsCalm w (instance_of d)) made cause.1,
+    refl,
+  )
   unsolved (refusal.Budget moves) cause = (
     cause.0,
     subst (λ d. IsSpent (instance_of d) summary_budget) made cause.1,

@@ -14,4 +14,5 @@ pub mod Summaries
 pub mod Checks
 pub mod Ends
 pub mod Runs
+pub mod Works
 pub mod Inner

@@ -13,6 +13,7 @@ use Rattle.lp_run.specs.Ends.{HasOutcome}
 use Rattle.lp_run.specs.Run.{IsRun, IsSpent}
 use Rattle.lp_run.specs.State.{State}
 use Rattle.bland_laws.specs.Ends.{run_bound}
+use Rattle.factor_run.specs.Calm.{IsCalm}
 use Rattle.bland_laws.specs.OutcomeProves.{OutcomeProves}
 use Rattle.lp_text.specs.declared.Form.{Form}
 use Rattle.mps_model.specs.DeckOf.{HasFault, IsDeckOf, Reading, has_fault, is_deck}
@@ -70,9 +71,10 @@ IsFirstFault form text fault = MatchOption (text_fault fault) ⊥ (HasFault form
 abbrev pub IsCutOff : Form → Option (List ℕ) → List ℕ → Type 0
 IsCutOff form new text = (taken : List ℕ) × Gives (Some text) new taken × IsReadNeeded form taken
 
--- the run of the text's deck comes within the budget to a value that does not fit w bits, and the first one stands here
+-- the run of the text's deck comes within the budget to a value that does not fit w bits, and the first one stands here; nor is the deck calm, so that a value
+-- that is worked over factors does not fit either
 abbrev pub IsOverflow : Asked → ℕ → Place → List ℕ → Type 0
-IsOverflow asked w here text = (d : Deck) × (line : ℕ) × IsDeckOf asked.form text d line × Overflows w asked.budget (instance_of d) here
+IsOverflow asked w here text = (d : Deck) × (line : ℕ) × IsDeckOf asked.form text d line × Overflows w asked.budget (instance_of d) here × (¬ IsCalm w (instance_of d))
 
 -- the run of the text's deck needs more moves than the budget, which is n, and below the bound of the run by Bland's theorem
 abbrev pub IsOverBudget : Asked → ℕ → List ℕ → Type 0
@@ -86,14 +88,18 @@ IsOrMemory s s' = (s ≡ s') ⊎ (s ≡ status.Memory)
 abbrev pub EndsWithin : ℕ → Deck → Type 0
 EndsWithin budget d = (log : List Entry) × (o : Outcome) × HasOutcome (instance_of d) log o × (moves log ≤ budget)
 
+-- each value fits w bits that the run of the deck lists, or each that a solver by factors works along it
+abbrev pub FitsRun : ℕ → Deck → Type 0
+FitsRun w d = RunFits w (instance_of d) ⊎ IsCalm w (instance_of d)
+
 -- the input is refused with the line, or memory ran out; Said is what standard error has of a line
 abbrev pub RefusesInput : Status → (List ℕ → Type 0) → List ℕ → Type 0
 RefusesInput s Said line = ((s ≡ status.BadInput) × Said line) ⊎ (s ≡ status.Memory)
 
--- a text with a fault is refused with the line of its first; a deck is answered whose run ends within the budget and fits w bits; where no end failed, and want of memory aside
+-- a text with a fault is refused with the line of its first; a deck is answered whose run ends within the budget and fits w bits, or is calm; where no end failed, and want of memory aside
 abbrev pub Answers : Asked → ℕ → Reading → Status → (List ℕ → Type 0) → Type 0
 Answers asked w (has_fault fault) s Said = RefusesInput s Said (fault_line fault)
-Answers asked w (is_deck d line) s Said = EndsWithin asked.budget d → RunFits w (instance_of d) → IsOrMemory s status.Done
+Answers asked w (is_deck d line) s Said = EndsWithin asked.budget d → FitsRun w d → IsOrMemory s status.Done
 
 -- a text with a fault is refused with the line of its first
 abbrev pub AnswersFault : Reading → Status → (List ℕ → Type 0) → Type 0

@@ -7,6 +7,7 @@ use Rattle.lp_run.specs.Listing.{Overflows}
 use Rattle.lp_run.specs.Run.{IsRun, IsSpent}
 use Rattle.lp_run.specs.State.{State}
 use Rattle.bland_laws.specs.Ends.{run_bound}
+use Rattle.factor_run.specs.Calm.{IsCalm}
 use Rattle.deck_model.specs.Outcome.{HasLengthsOf}
 use Rattle.lp_text.specs.Report.{Report}
 use Rattle.lp_text.specs.declared.Form.{Form}
@@ -56,7 +57,7 @@ pub record IsReportOf (asked : Asked) (d : Deck) (report : Report) : Type 0 wher
 
 -- why a deck that was read has no report
 abbrev pub IsReportCause : Asked → ℕ → Deck → Refusal → Type 0
-IsReportCause asked w d (refusal.Overflow here) = Overflows w asked.budget (instance_of d) here
+IsReportCause asked w d (refusal.Overflow here) = Overflows w asked.budget (instance_of d) here × (¬ IsCalm w (instance_of d))
 IsReportCause asked w d (refusal.Budget moves) = (moves ≡ asked.budget) × IsSpent (instance_of d) asked.budget × (asked.budget < run_bound (instance_of d))
 IsReportCause asked w d refusal.Memory = Unit {0}
 IsReportCause asked w d other = ⊥

@@ -11,6 +11,7 @@ use Rattle.lp_run.specs.Instance.{instance_of}
 use Rattle.lp_run.specs.Listing.{Overflows}
 use Rattle.lp_run.specs.Run.{IsSpent}
 use Rattle.bland_laws.specs.Ends.{run_bound}
+use Rattle.factor_run.specs.Calm.{IsCalm}
 use Rattle.lp_text.specs.Fraction.{fraction_text}
 use Rattle.lp_main.specs.declared.refusal.Refusal.{Refusal}
 use Rattle.lp_main.specs.declared.refusal.Refusal.TheVariants as refusal
@@ -42,7 +43,7 @@ BeginsSummary n old new = (bytes : List ℕ) × IsSummary n bytes × AppendsPref
 
 -- why no summary was written, and what the sink gained of it
 abbrev pub IsSummaryCause : ℕ → ℕ → Option (List ℕ) → Option (List ℕ) → Refusal → Type 0
-IsSummaryCause n w old new (refusal.Overflow here) = Overflows w summary_budget (instance_of (transport n)) here × (new ≡ old)
+IsSummaryCause n w old new (refusal.Overflow here) = Overflows w summary_budget (instance_of (transport n)) here × (¬ IsCalm w (instance_of (transport n))) × (new ≡ old)
 IsSummaryCause n w old new (refusal.Budget moves) =
     (moves ≡ summary_budget) × IsSpent (instance_of (transport n)) summary_budget × (summary_budget < run_bound (instance_of (transport n))) × (new ≡ old)
 IsSummaryCause n w old new refusal.Write = BeginsSummary n old new

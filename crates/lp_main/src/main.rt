@@ -4,7 +4,8 @@
 //! stands behind one, writes a deck in its layout, or makes a deck and solves it, and waits for nobody. The contract of
 //! `run_alone` is the relation `Runs` of `specs/Runs.antt`, over any source and any sinks: where they tell their bytes, the bytes
 //! written are the report of the deck's one run by Bland's rule (Bland 1977), as it is asked for, the verdict on a report, the
-//! deck, or the summary of a run; or one line refuses, with its cause.
+//! deck, or the summary of a run; or one line refuses, with its cause. Its clause `works` (`specs/Works.antt`) bounds the products and
+//! quotients of a solve over factors, where each value fits that it works.
 //!
 //! Every deck in fixed MPS and in its free form is read, and each fault of a text has its line. Every deck is solved, in two phases: to an optimal
 //! point with prices that prove it, to a Farkas row, which leaves no feasible point, or to a feasible point with a ray along

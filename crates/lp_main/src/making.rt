@@ -10,6 +10,8 @@ ghost use Rattle.lp_model.specs.Outcome.{optimal};
 ghost use Rattle.lp_text.specs.Fraction.{fraction_text};
 ghost use Rattle.rational.specs.Rational.{ℚ};
 ghost use Rattle.lp_main.specs.Refusals.{ended};
+ghost use Rattle.lp_main.specs.Ends.{status_of_end};
+ghost use Rattle.lp_main.specs.Works.{WorksCalmly, counts};
 ghost use Rattle.lp_main.specs.Summaries.{GivesSummary, IsSummaryCause, summary};
 
 use crate::refusal::Refusal;
@@ -110,6 +112,8 @@ pub fn make_and_solve<R: Threads + Sync, K: Sink, A: Arith>(
     ensures sink_stays { ¬ IsErrOf result Refusal.Write → K.fault_count out.new ≡ K.fault_count out.old }
     ensures sink_never_falls { K.fault_count out.old ≤ K.fault_count out.new }
     ensures same_width { A.width arith.new ≡ A.width arith.old }
+    ensures works { WorksCalmly (A.width arith.old) (transport size)
+        (counts (A.unfit_count arith.old) (A.work_count arith.old)) (counts (A.unfit_count arith.new) (A.work_count arith.new)) (status_of_end result) }
 {
     let Ok(deck) = make(alloc, size) else {
         return Err(Refusal::Memory);

@@ -1,5 +1,5 @@
 // A solve from a source to a sink.
-ghost use Rattle.std.specs.Prelude.{◌≡◌, ◌≤◌, [], None, drop, option_map, IfOk, IfSome, IfErr, OnOk, IsErrOf, MatchResult};
+ghost use Rattle.std.specs.Prelude.{◌≡◌, ◌+◌, ◌≤◌, [], None, Some, drop, option_map, IfOk, IfSome, IfErr, OnOk, IsErrOf, MatchResult};
 ghost use Rattle.io_ends.specs.Bytes.{Appends, AppendsPrefix};
 ghost use Rattle.io_ends.specs.Count.{Rose};
 ghost use Rattle.lp_text.specs.Report.{text_of_report};
@@ -13,6 +13,11 @@ ghost use Rattle.lp_run.specs.Listing.{StartFits};
 ghost use Rattle.mps_cards.specs.NextLine.{lines_left};
 ghost use Rattle.mps_model.specs.DeckOf.{IsDeckOf};
 ghost use Rattle.mps_reader.specs.Answers.{IsReadAsNeeded};
+ghost use Rattle.bland_ratio.specs.Entries.{stored_entries};
+ghost use Rattle.factor_run.specs.Calm.{IsCalm};
+ghost use Rattle.lp_main.specs.declared.words.Task.{Task};
+ghost use Rattle.lp_main.specs.Ends.{status_of_end};
+ghost use Rattle.lp_main.specs.Works.{IsBounded, Works, counts};
 ghost use Rattle.lp_main.specs.Serves.{Reports, stated};
 ghost use Rattle.lp_main.specs.Solves.{IsCause, IsReadingCause, IsReportCause, IsReportOf, IsWriteCause, refusal_of};
 
@@ -67,8 +72,8 @@ pub fn load<S: Source>(
     }
 }
 
-/// The report of a deck.
-#[tactic(auto, using(crate::proofs::Reporting::start_cause))]
+/// The report of a deck. Where its instance is calm no result is unfit, and the products and quotients are within the bound of
+/// a solve over factors, those of the start sums included.
 pub fn report_of<R: Threads + Sync, A: Arith>(
     rt: &R,
     alloc: Global,
@@ -79,6 +84,8 @@ pub fn report_of<R: Threads + Sync, A: Arith>(
     ensures report { IfOk result (IsReportOf asked deck.now) }
     ensures cause { IfErr result (IsReportCause asked (A.width arith.old) deck.now) }
     ensures same_width { A.width arith.new ≡ A.width arith.old }
+    ensures calm { IsCalm (A.width arith.old) (instance_of deck.now) → A.unfit_count arith.new ≡ A.unfit_count arith.old }
+    ensures work { IsCalm (A.width arith.old) (instance_of deck.now) → IfOk result (λ _. IsBounded deck.now (A.work_count arith.old) (A.work_count arith.new)) }
 {
     let _rows = deck.rows();
     match Instance::of(alloc, deck, arith) {
@@ -103,6 +110,8 @@ fn report_of_shared<R: Threads + Sync, A: Arith>(
     ensures report { IfOk result (IsReportOf asked deck.now) }
     ensures cause { IfErr result (IsReportCause asked (A.width arith.old) deck.now) }
     ensures same_width { A.width arith.new ≡ A.width arith.old }
+    ensures calm { IsCalm (A.width arith.old) (instance_of deck.now) → A.unfit_count arith.new ≡ A.unfit_count arith.old }
+    ensures work { IsCalm (A.width arith.old) (instance_of deck.now) → IfOk result (λ _. IsBounded deck.now (A.work_count arith.old) (A.work_count arith.new + stored_entries (instance_of deck.now))) }
 {
     let Ok(shared) = Arc::new(alloc, inst) else {
         return Err(Refusal::Memory);
@@ -130,6 +139,8 @@ fn report_of_instance<R: Threads + Sync, A: Arith>(
     ensures report { IfOk result (IsReportOf asked deck.now) }
     ensures cause { IfErr result (IsReportCause asked (A.width arith.old) deck.now) }
     ensures same_width { A.width arith.new ≡ A.width arith.old }
+    ensures calm { IsCalm (A.width arith.old) (instance_of deck.now) → A.unfit_count arith.new ≡ A.unfit_count arith.old }
+    ensures work { IsCalm (A.width arith.old) (instance_of deck.now) → IfOk result (λ _. IsBounded deck.now (A.work_count arith.old) (A.work_count arith.new + stored_entries (instance_of deck.now))) }
 {
     match solve_alone(rt, alloc, shared, asked.budget, arith) {
         Ok(closed) => report_of_closed(alloc, asked, inst, closed),
@@ -198,6 +209,8 @@ pub fn solve<R: Threads + Sync, S: Source, K: Sink, A: Arith>(
     ensures sink_stays { ¬ IsErrOf result Refusal.Write → K.fault_count out.new ≡ K.fault_count out.old }
     ensures sink_never_falls { K.fault_count out.old ≤ K.fault_count out.new }
     ensures same_width { A.width arith.new ≡ A.width arith.old }
+    ensures works { Works (Some (Task.Solve asked)) (A.width arith.old) (S.remaining source.old)
+        (counts (A.unfit_count arith.old) (A.work_count arith.old)) (counts (A.unfit_count arith.new) (A.work_count arith.new)) (status_of_end result) }
 {
     let Ok(mut lines) = LineReader::new(alloc) else {
         return Err(Refusal::Memory);

@@ -3,9 +3,10 @@ ghost use Rattle.std.specs.Prelude.{◌≡◌, ◌≤◌, IsErrOf, map};
 ghost use Rattle.std.specs.String.{string_bytes};
 ghost use Rattle.io_ends.specs.Count.{Rose};
 ghost use Rattle.lp_words.specs.Words.{wish_of};
-ghost use Rattle.lp_main.specs.Ends.{LeavesBy, ReadsAsNeeded};
+ghost use Rattle.lp_main.specs.Ends.{LeavesBy, ReadsAsNeeded, status_of_end};
 ghost use Rattle.lp_main.specs.Runs.{Runs};
 ghost use Rattle.lp_main.specs.Words.{task_of};
+ghost use Rattle.lp_main.specs.Works.{Works, counts};
 ghost use Rattle.lp_main.specs.World.{stream, world};
 
 use crate::checking::check;
@@ -42,6 +43,8 @@ fn serve<R: Threads + Sync, S: Source, K: Sink, A: Arith>(
     ensures sink_stays { ¬ IsErrOf result Refusal.Write → K.fault_count out.new ≡ K.fault_count out.old }
     ensures sink_never_falls { K.fault_count out.old ≤ K.fault_count out.new }
     ensures same_width { A.width arith.new ≡ A.width arith.old }
+    ensures works { Works (task_of (wish_of (map string_bytes words.now))) (A.width arith.old) (S.remaining input.old)
+        (counts (A.unfit_count arith.old) (A.work_count arith.old)) (counts (A.unfit_count arith.new) (A.work_count arith.new)) (status_of_end result) }
 {
     match served(alloc, words) {
         Ok(Task::Solve(asked)) => solve(rt, alloc, asked, input, out, arith),
@@ -67,7 +70,7 @@ fn serve<R: Threads + Sync, S: Source, K: Sink, A: Arith>(
 ///   where a write there failed), and the refusal has its cause: words that ask for nothing that is served; the text's first
 ///   fault, or the report's first flaw, or the first number of a deck that has no spelling on a card; a failed read, where what
 ///   was taken has no whole line with a fault; a failed write; the first value of the run, or the first sum of the check, that
-///   does not fit the width, with its place or its rule; or a run longer than the budget, which is then below the bound of
+///   does not fit the width, with its place or its rule, where a deck to be solved is not calm either; or a run longer than the budget, which is then below the bound of
 ///   Bland's theorem. `out` gained nothing, but after a failed write or want of memory it may have a beginning of what was to
 ///   be written. Where nothing that is served is asked for, nothing is read and nothing written.
 /// - `needed`: `solve` and `deck` read `input` only as needed, however the call ends: before the last read, of up to 4,096 bytes, no line
@@ -80,8 +83,13 @@ fn serve<R: Threads + Sync, S: Source, K: Sink, A: Arith>(
 /// - `writes`: either no write failed, so that the count of `out` stands, and the status is not `WriteFault`. Or a write failed
 ///   behind a beginning of what was to be written, the count rose, and the status is `WriteFault` or `Memory`.
 /// - `answered`: where neither count rose, a text with a fault has `BadInput` and the line of its first fault, a deck to be
-///   solved whose run ends within the budget, all of whose values fit, has `Done`, and a deck to be written has `Done`, or
+///   solved whose run ends within the budget and which is calm, or all of whose run's values fit, has `Done`, and a deck to be written has `Done`, or
 ///   `BadInput` and the line of its first number without a spelling; or the status is `Memory`.
+///
+/// `works`: where the deck that is to be solved, or that is made, is calm, so that each value fits the width that a solver by
+/// factors works along its run, no result is unfit. Where such a solve is `Done`, with m rows, so many entries and costs that
+/// are not 0, and so many moves in its run, it takes at most (moves + 4)·(4m² + 256m + entries) + (moves/64 + 1)·m³ products and
+/// quotients.
 ///
 /// `same_width`: the arithmetic keeps its width.
 pub fn run_alone<R: Threads + Sync, S: Source, K: Sink, E: Sink, A: Arith>(
@@ -98,6 +106,8 @@ pub fn run_alone<R: Threads + Sync, S: Source, K: Sink, E: Sink, A: Arith>(
         (world (stream (S.remaining input.new) (S.fault_count input.new)) (stream (K.contents out.new) (K.fault_count out.new)) (stream (E.contents err.new) (E.fault_count err.new)))
         result }
     ensures same_width { A.width arith.new ≡ A.width arith.old }
+    ensures works { Works (task_of (wish_of (map string_bytes words.now))) (A.width arith.old) (S.remaining input.old)
+        (counts (A.unfit_count arith.old) (A.work_count arith.old)) (counts (A.unfit_count arith.new) (A.work_count arith.new)) result }
 {
     match serve(rt, alloc, words, input, out, arith) {
         Ok(answer) => answer.status(),

@@ -115,8 +115,9 @@ module _ (inst : Instance) where
 
   -- ── the whole ──
 
+  -- the stored entries may be worked once more
   pub whole_work : (log : List Entry) (s : State) → IsRun inst log s → (u made spent closing all : ℕ) → IsTally inst log (length log + 1) u spent → made ≤ stored_entries inst + making_work inst
-      → closing ≤ nonzero_costs inst → all ≤ made + spent + closing → all ≤ solve_work inst (moves log)
+      → closing ≤ nonzero_costs inst → all ≤ made + spent + closing → all + stored_entries inst ≤ solve_work inst (moves log)
   whole_work log s run u made spent closing all h start end sum =
       let f = h.makings in
       let few : length log + 1 ≤ moves log + 2 = omega (arith, few_entries log s run) in
@@ -129,7 +130,7 @@ module _ (inst : Instance) where
       by (moves log) (moves log / 64) (round_work inst) (making_work inst) (length log + 1) f (moves log + 2 - (length log + 1)) (moves log / 64 - f) rounds makings h.bounded spare start end sum
     where
       by : (v d r m k f a b : ℕ) → (k + a) * r ≡ (v + 2) * r → (f + b) * m ≡ d * m → spent ≤ k * r + f * m → stored_entries inst + nonzero_costs inst ≤ r → made ≤ stored_entries inst + m
-          → closing ≤ nonzero_costs inst → all ≤ made + spent + closing → all ≤ (v + 4) * r + (d + 1) * m
+          → closing ≤ nonzero_costs inst → all ≤ made + spent + closing → all + stored_entries inst ≤ (v + 4) * r + (d + 1) * m
       by v d r m k f a b rounds makings bounded spare start end sum = omega (arith, rounds, makings, bounded, spare, start, end, sum)
 
   -- ── rounds of a board ──
@@ -161,7 +162,8 @@ module _ (inst : Instance) where
 
   -- a round: the ticket, the choice and what is recorded
   module _ {A : Type 0} (asked new : Board A) (choice : Choice) (fits : choice.unfit ≡ false) (factors : IsPlain new.ground → ⊥) (log : List Entry) (updates : ℕ)
-      (same_log : asked.log ≡ log) (same_updates : asked.updates ≡ updates) (owes before b₀ b₁ b₂ a₀ a₁ : ℕ) (owed : owes ≤ solve_most (row_count inst)) (unowed : ground_owed (row_count inst) asked.ground ≡ 0)
+      (same_log : asked.log ≡ log) (same_updates : asked.updates ≡ updates) (owes before b₀ b₁ b₂ a₀ a₁ : ℕ)
+      (owed : owes ≤ solve_most (row_count inst)) (unowed : ground_owed (row_count inst) asked.ground ≡ 0)
       (ticket : b₁ ≤ b₀ + owes) (chosen : a₁ ≤ a₀ + (stored_entries inst + 2 * row_count inst)) where
     worked_there : HasWorked inst log (length log) updates before (b₀ + a₀) → HasWorked inst asked.log (length asked.log) asked.updates before (b₀ + a₀)
     worked_there h =

@@ -1,5 +1,5 @@
 -- The rows before the one at which the loop stops fit.
-use Rattle.std.proofs.Common.{◌≡◌, [], ◌∷◌, ◌++◌, Some, ◌∙◌, ap, ap₂, sym, subst, arith}
+use Rattle.std.proofs.Common.{◌≡◌, [], ◌∷◌, ◌++◌, length, Some, ◌∙◌, ap, ap₂, sym, subst, arith}
 use Rattle.std.proofs.lemmas.List.{length-map}
 use Rattle.std.proofs.lemmas.List.FromFn.{map-range_with_len_more}
 use Rattle.lp_model.specs.Deck.{Row}
@@ -9,6 +9,7 @@ use Rattle.lp_run.proofs.FirstUnfit.{all-flat_map, first-flat_map}
 use Rattle.exact_frac.specs.Count.{raised}
 use Rattle.instance_model.specs.Inner.Starts.{row_start}
 use Rattle.instance_model.proofs.Made.{overflown, overflown_count, wanting, wanting_count}
+use Rattle.instance_model.proofs.Products.{row_costs}
 use Rattle.instance_model.proofs.making.row_starts.Goals as goal
 use borrow.Author.Count.{below_more}
 
@@ -20,10 +21,28 @@ loop-row-preserved g c =
     record {
       width = c.row_start.ensures.width ∙ c.loop-row.invariant.width;
       unfit = c.in_ok-row_start.ensures.unfit ∙ c.loop-row.invariant.unfit;
+      work = row_costs (equations_of d) (length d.rows) row (omega (arith, c.rows-row-end.ensures.count)) _ _ _ c.row_start.ensures.work c.loop-row.invariant.work;
       starts = c.in_ok-push.ensures.items ∙ ap₂ (λ xs x. xs ++ x ∷ []) c.loop-row.invariant.starts c.in_ok-row_start.ensures.value
           ∙ sym (map-range_with_len_more (row_start d) 0 row row (omega arith));
       fits = below_more (λ k. AllFit (g.A.Arith.width c.args.arith.now) (start_sums (equations_of d) k)) row c.loop-row.invariant.fits here;
     }
+
+pub returns-clause-work : goal.returns-clause-work
+returns-clause-work g c =
+    let spent = c.loop-row.invariant.work in
+    omega (arith, spent)
+
+pub returns-in_err-row_start-clause-work : goal.returns-in_err-row_start-clause-work
+returns-in_err-row_start-clause-work g c =
+    let d = c.args.deck.now in
+    let spent = row_costs (equations_of d) (length d.rows) c.loop-row.row (omega (arith, c.rows-row-end.ensures.count)) _ _ _ c.row_start.ensures.work c.loop-row.invariant.work in
+    omega (arith, spent)
+
+pub returns-in_err-push-clause-work : goal.returns-in_err-push-clause-work
+returns-in_err-push-clause-work g c =
+    let d = c.args.deck.now in
+    let spent = row_costs (equations_of d) (length d.rows) c.loop-row.row (omega (arith, c.rows-row-end.ensures.count)) _ _ _ c.row_start.ensures.work c.loop-row.invariant.work in
+    omega (arith, spent)
 
 pub returns-clause-judged : goal.returns-clause-judged
 returns-clause-judged g c =

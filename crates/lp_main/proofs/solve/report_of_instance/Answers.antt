@@ -2,16 +2,20 @@ use Rattle.std.proofs.Common.{subst, sym, ◌∙◌}
 use Rattle.bland_laws.proofs.OfDeck.{well_formed}
 use Rattle.crew.specs.Answers.{HasClosed, IsCause}
 use Rattle.lp_run.specs.Instance.{IsWellFormed}
+use Rattle.crew.specs.Inner.Works.{IsCalmFault}
+use Rattle.factor_run.specs.Calm.{IsCalm}
 use Rattle.lp_main.specs.Solves.{IsReportCause}
 use Rattle.lp_main.specs.declared.refusal.Refusal.TheVariants as refusal
 use Rattle.lp_main.proofs.Reporting.{budget_cause, closed_run, overflow_cause, report_is, report_or_memory}
+use Rattle.lp_main.proofs.Working.{bounded, for_all}
 use Rattle.lp_main.proofs.solve.report_of_instance.Goals as goal
 
 pub report_of_closed-requires-clause-formed : goal.report_of_closed-requires-clause-formed
 report_of_closed-requires-clause-formed g c = subst IsWellFormed (sym c.requires.instance) (well_formed c.args.deck.now c.requires.deck)
 
 pub report_of_closed-requires-clause-run : goal.report_of_closed-requires-clause-run
-report_of_closed-requires-clause-run g c = closed_run c.args.inst.now c.in-Ok.closed _ (subst (λ i. HasClosed i c.args.asked.budget c.in-Ok.closed) (c.requires.shared ∙ sym c.requires.instance) c.in-Ok.ensures.solves)
+report_of_closed-requires-clause-run g c =
+    closed_run c.args.inst.now c.in-Ok.closed _ (subst (λ i. HasClosed i c.args.asked.budget c.in-Ok.closed) (c.requires.shared ∙ sym c.requires.instance) c.in-Ok.ensures.solves)
 
 pub returns-in-Ok-clause-report : goal.returns-in-Ok-clause-report
 returns-in-Ok-clause-report g c =
@@ -29,7 +33,8 @@ returns-in-Err-Overflow-clause-cause g c =
     let inst = c.args.shared.value in
     subst (λ here. IsReportCause asked w d (refusal.Overflow here)) (sym c.in-Err-Overflow.place-is)
     (overflow_cause d c.requires.deck asked w inst c.requires.shared c.in-Err-Overflow.place
-    (subst (IsCause w inst asked.budget) c.in-Err-Overflow.field-0-is c.in-Err-Overflow.ensures.solves))
+    (subst (IsCause w inst asked.budget) c.in-Err-Overflow.field-0-is c.in-Err-Overflow.ensures.solves)
+    (λ calm. subst IsCalmFault c.in-Err-Overflow.field-0-is (c.in-Err-Overflow.ensures.calm calm).1))
 
 pub returns-in-Err-Budget-clause-cause : goal.returns-in-Err-Budget-clause-cause
 returns-in-Err-Budget-clause-cause g c =
@@ -40,3 +45,21 @@ returns-in-Err-Budget-clause-cause g c =
     subst (λ n. IsReportCause asked w d (refusal.Budget n)) (sym c.in-Err-Budget.moves-is)
     (budget_cause d c.requires.deck asked w inst c.requires.shared c.in-Err-Budget.moves
     (subst (IsCause w inst asked.budget) c.in-Err-Budget.field-0-is c.in-Err-Budget.ensures.solves))
+
+pub returns-in-Ok-clause-calm : goal.returns-in-Ok-clause-calm
+returns-in-Ok-clause-calm g c calm = (c.solve_alone.ensures.calm (subst (IsCalm (g.A.Arith.width c.args.arith.now)) (sym c.requires.shared) calm)).0
+
+pub returns-in-Err-Overflow-clause-calm : goal.returns-in-Err-Overflow-clause-calm
+returns-in-Err-Overflow-clause-calm g c calm = (c.solve_alone.ensures.calm (subst (IsCalm (g.A.Arith.width c.args.arith.now)) (sym c.requires.shared) calm)).0
+
+pub returns-in-Err-Budget-clause-calm : goal.returns-in-Err-Budget-clause-calm
+returns-in-Err-Budget-clause-calm g c calm = (c.solve_alone.ensures.calm (subst (IsCalm (g.A.Arith.width c.args.arith.now)) (sym c.requires.shared) calm)).0
+
+pub returns-in-Err-Memory-clause-calm : goal.returns-in-Err-Memory-clause-calm
+returns-in-Err-Memory-clause-calm g c calm = (c.solve_alone.ensures.calm (subst (IsCalm (g.A.Arith.width c.args.arith.now)) (sym c.requires.shared) calm)).0
+
+pub returns-in-Ok-clause-work : goal.returns-in-Ok-clause-work
+returns-in-Ok-clause-work g c calm =
+    for_all c.report_of_closed.result
+    (bounded (g.A.Arith.width c.args.arith.now) c.args.deck.now c.args.shared.value c.requires.shared c.in-Ok.closed c.args.asked.budget c.in-Ok.ensures.solves
+    (g.A.Arith.work_count c.args.arith.now) (g.A.Arith.work_count c.solve_alone.new.arith) c.in-Ok.ensures.work calm)

@@ -1,6 +1,11 @@
-use Rattle.std.proofs.Common.{[], refl}
+use Rattle.std.proofs.Common.{[], Some, refl}
 use Rattle.mps_reader.proofs.NeededLemmas.{unread}
-use Rattle.lp_main.specs.declared.refusal.Refusal.TheVariants.{Write}
+use Rattle.lp_main.specs.declared.refusal.Refusal.TheVariants.{Memory, Write}
+use Rattle.lp_main.specs.declared.status.Status.TheVariants as status
+use Rattle.lp_main.specs.declared.words.Task.TheVariants.{Solve}
+use Rattle.lp_main.specs.Ends.{status_of_end}
+use Rattle.lp_main.specs.Works.{counts}
+use Rattle.lp_main.proofs.Working.{calmly_done, calmly_handed_on, nothing_handed_on, nothing_worked, of_text}
 use Rattle.lp_main.proofs.Solving.{is_read, refused_cause, reports, still_other, unwritten_cause}
 use Rattle.lp_main.proofs.solve.solve.Goals as goal
 
@@ -34,3 +39,51 @@ returns-clause-done g c =
       reports c.args.asked (g.K.Sink.contents c.args.out.now) (g.K.Sink.contents c.write.new.out) c.in_ok-deck.deck c.in_ok-report.report
           c.in_ok-report.ensures.report text (is_read c.args.asked.form text c.in_ok-deck.deck c.load.new.lines.count c.in_ok-deck.ensures.read) c.in_ok-write.ensures.written,
     )
+
+pub returns-in_default-clause-works : goal.returns-in_default-clause-works
+returns-in_default-clause-works g c =
+    let w = g.A.Arith.width c.args.arith.now in
+    let text = g.S.Source.remaining c.args.source.now in
+    let old = counts (g.A.Arith.unfit_count c.args.arith.now) (g.A.Arith.work_count c.args.arith.now) in
+    nothing_worked (Some (Solve c.args.asked)) w text old Memory
+
+pub returns-in_err-deck-clause-works : goal.returns-in_err-deck-clause-works
+returns-in_err-deck-clause-works g c =
+    let w = g.A.Arith.width c.args.arith.now in
+    let text = g.S.Source.remaining c.args.source.now in
+    let old = counts (g.A.Arith.unfit_count c.args.arith.now) (g.A.Arith.work_count c.args.arith.now) in
+    nothing_handed_on (Some (Solve c.args.asked)) w text old c.from_residual.result c.in_err-deck.field-0.0 c.from_residual.ensures.1
+
+pub returns-in_err-report-clause-works : goal.returns-in_err-report-clause-works
+returns-in_err-report-clause-works g c =
+    let w = g.A.Arith.width c.args.arith.now in
+    let text = g.S.Source.remaining c.args.source.now in
+    let old = counts (g.A.Arith.unfit_count c.args.arith.now) (g.A.Arith.work_count c.args.arith.now) in
+    let new = counts (g.A.Arith.unfit_count c.report_of.new.arith) (g.A.Arith.work_count c.report_of.new.arith) in
+    let d = c.in_ok-deck.deck in
+    let read = is_read c.args.asked.form text d c.load.new.lines.count c.in_ok-deck.ensures.read in
+    let result = c.from_residual-in_err-report.result in
+    of_text c.args.asked w text d old new (status_of_end result) read
+    (calmly_handed_on w d old new c.report_of.ensures.calm result c.in_err-report.field-0.0 c.from_residual-in_err-report.ensures.1)
+
+pub returns-in_err-write-clause-works : goal.returns-in_err-write-clause-works
+returns-in_err-write-clause-works g c =
+    let w = g.A.Arith.width c.args.arith.now in
+    let text = g.S.Source.remaining c.args.source.now in
+    let old = counts (g.A.Arith.unfit_count c.args.arith.now) (g.A.Arith.work_count c.args.arith.now) in
+    let new = counts (g.A.Arith.unfit_count c.report_of.new.arith) (g.A.Arith.work_count c.report_of.new.arith) in
+    let d = c.in_ok-deck.deck in
+    let read = is_read c.args.asked.form text d c.load.new.lines.count c.in_ok-deck.ensures.read in
+    let result = c.from_residual-in_err-write.result in
+    of_text c.args.asked w text d old new (status_of_end result) read
+    (calmly_handed_on w d old new c.report_of.ensures.calm result c.in_err-write.field-0.0 c.from_residual-in_err-write.ensures.1)
+
+pub returns-clause-works : goal.returns-clause-works
+returns-clause-works g c =
+    let w = g.A.Arith.width c.args.arith.now in
+    let text = g.S.Source.remaining c.args.source.now in
+    let old = counts (g.A.Arith.unfit_count c.args.arith.now) (g.A.Arith.work_count c.args.arith.now) in
+    let new = counts (g.A.Arith.unfit_count c.report_of.new.arith) (g.A.Arith.work_count c.report_of.new.arith) in
+    let d = c.in_ok-deck.deck in
+    let read = is_read c.args.asked.form text d c.load.new.lines.count c.in_ok-deck.ensures.read in
+    of_text c.args.asked w text d old new status.Done read (calmly_done w d old new c.report_of.ensures.calm status.Done c.in_ok-report.ensures.work)

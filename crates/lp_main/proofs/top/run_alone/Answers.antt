@@ -1,11 +1,14 @@
-use Rattle.std.proofs.Common.{subst, sym}
+use Rattle.std.proofs.Common.{subst, sym, ◌∙◌}
 use Rattle.std.specs.Prelude.{map}
 use Rattle.std.specs.String.{string_bytes}
 use Rattle.lp_words.specs.Words.{wish_of}
 use Rattle.lp_main.specs.Runs.{Runs}
 use Rattle.lp_main.specs.Words.{task_of}
+use Rattle.lp_main.specs.Refusal.{status_of_refusal}
+use Rattle.lp_main.specs.Works.{Works, counts}
 use Rattle.lp_main.specs.World.{stream, world}
 use Rattle.lp_main.proofs.Ending.{runs_done, runs_refused}
+use Rattle.lp_main.proofs.Working.{not_done, said_instead}
 use Rattle.lp_main.proofs.top.run_alone.Goals as goal
 
 pub returns-in-Ok-clause-runs : goal.returns-in-Ok-clause-runs
@@ -33,3 +36,22 @@ returns-in-Err-clause-runs g c =
     runs_refused w input input' output output' c.serve.ensures.source_never_falls c.serve.ensures.sink_never_falls
     c.in-Err.refusal c.in-Err.ensures.source_rose c.in-Err.ensures.source_stays c.in-Err.ensures.sink_rose c.in-Err.ensures.sink_stays c.refuse.result
     errors errors' (task_of (wish_of (map string_bytes c.args.words.now))) c.in-Err.ensures.leaves c.serve.ensures.needed c.refuse.ensures.said
+
+pub returns-in-Ok-clause-works : goal.returns-in-Ok-clause-works
+returns-in-Ok-clause-works g c =
+    let w = g.A.Arith.width c.args.arith.now in
+    let text = g.S.Source.remaining c.args.input.now in
+    let old = counts (g.A.Arith.unfit_count c.args.arith.now) (g.A.Arith.work_count c.args.arith.now) in
+    let new = counts (g.A.Arith.unfit_count c.serve.new.arith) (g.A.Arith.work_count c.serve.new.arith) in
+    let what = task_of (wish_of (map string_bytes c.args.words.now)) in
+    subst (Works what w text old new) (sym c.status.ensures) c.in-Ok.ensures.works
+
+pub returns-in-Err-clause-works : goal.returns-in-Err-clause-works
+returns-in-Err-clause-works g c =
+    let w = g.A.Arith.width c.args.arith.now in
+    let text = g.S.Source.remaining c.args.input.now in
+    let old = counts (g.A.Arith.unfit_count c.args.arith.now) (g.A.Arith.work_count c.args.arith.now) in
+    let new = counts (g.A.Arith.unfit_count c.serve.new.arith) (g.A.Arith.work_count c.serve.new.arith) in
+    let what = task_of (wish_of (map string_bytes c.args.words.now)) in
+    let said = c.refuse.ensures.said in
+    said_instead what w text old new (status_of_refusal c.in-Err.refusal) c.refuse.result (λ done. not_done said.0 (sym said.2 ∙ done)) c.in-Err.ensures.works

@@ -1,6 +1,8 @@
 -- What is made of the deck's parts is its instance, which is well formed.
-use Rattle.std.proofs.Common.{◌∙◌, ap, map}
+use Rattle.std.proofs.Common.{◌∙◌, ap, map, length, arith}
+use Rattle.lp_run.specs.Instance.{equations_of}
 use Rattle.instance_model.specs.declared.start_sums.RowStart.{RowStart}
+use Rattle.instance_model.proofs.Products.{products_stored}
 use Rattle.instance_model.proofs.Whole.{columns_few, whole, whole_few, whole_long, whole_well_formed}
 use Rattle.instance_model.proofs.instance.Instance.of.Goals as goal
 
@@ -39,3 +41,23 @@ returns-clause-made g c =
     (c.in_ok-range_sums.ensures ∙ ap (map (λ (s : RowStart). s.range_sum)) c.deref.ensures.value)
     (c.in_ok-passed_sides.ensures ∙ ap (map (λ (s : RowStart). s.passed)) c.deref-2.ensures.value) c.constant.ensures c.sense.ensures in
     (is, c.in_ok-starts.ensures.judged)
+
+pub returns-in_err-range_sums-clause-work : goal.returns-in_err-range_sums-clause-work
+returns-in_err-range_sums-clause-work g c =
+    let stored = products_stored (equations_of c.args.deck.now) (length c.args.deck.now.rows) in
+    omega (arith, stored, c.row_starts.ensures.work)
+
+pub returns-in_err-passed_sides-clause-work : goal.returns-in_err-passed_sides-clause-work
+returns-in_err-passed_sides-clause-work g c =
+    let stored = products_stored (equations_of c.args.deck.now) (length c.args.deck.now.rows) in
+    omega (arith, stored, c.row_starts.ensures.work)
+
+pub returns-clause-work : goal.returns-clause-work
+returns-clause-work g c =
+    let stored = products_stored (equations_of c.args.deck.now) (length c.args.deck.now.rows) in
+    omega (arith, stored, c.row_starts.ensures.work)
+
+pub returns-in_err-starts-clause-work : goal.returns-in_err-starts-clause-work
+returns-in_err-starts-clause-work g c =
+    let stored = products_stored (equations_of c.args.deck.now) (length c.args.deck.now.rows) in
+    omega (arith, stored, c.row_starts.ensures.work)
