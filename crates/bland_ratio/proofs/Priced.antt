@@ -1,21 +1,20 @@
 -- The reduced cost of a column as it is worked, against its definition.
-use Rattle.std.proofs.Common.{◌≡◌, ◌≢◌, ℕ, ◌+◌, ◌<◌, ◌≤◌, ◌⊎◌, inl, inr, Bool, true, false, List, [], ◌∷◌, Some, None, Option, Result, Ok, Err, cond, eqb, eq-eqb, ne_eqb, refl, sym, ◌∙◌, ap, ap₂, subst, arith}
+use Rattle.std.proofs.Common.{◌≡◌, ◌≢◌, ℕ, ◌+◌, ◌<◌, ◌≤◌, List, [], ◌∷◌, Some, None, Option, Result, Ok, Err, cond, eqb, eq-eqb, ne_eqb, refl, sym, ◌∙◌, ap, ap₂, subst, arith}
 use Rattle.std.proofs.lemmas.Int.{ints}
 use Rattle.lp_run.specs.declared.ColumnKind.{ColumnKind}
 use Rattle.lp_run.specs.declared.ColumnKind.TheVariants as column
 use Rattle.lp_model.specs.declared.Phase.{Phase}
 use Rattle.exact_frac.specs.declared.unfit.Unfit.{Unfit}
 use Rattle.exact_frac.specs.Settles.{Settles}
-use Rattle.rational.specs.Rational.{ℚ, zero_ℚ, one_ℚ, ◌-ℚ◌, ◌*ℚ◌, eq_ℚ}
+use Rattle.rational.specs.Rational.{ℚ, zero_ℚ, one_ℚ, ◌-ℚ◌, ◌*ℚ◌}
 use Rattle.rational.specs.Lines.{gather}
 use Rattle.rational.specs.Sparse.{IsSparse, at_index, entry_at}
 use Rattle.rational.specs.Sum.{at, sum_ℚ}
-use Rattle.rational.specs.Worked.{Worked, bind, done, less, less_unless, settle, work}
+use Rattle.rational.specs.Worked.{Worked, bind, done, less, less_unless, settle}
 use Rattle.rational.proofs.Linear.{linear, ◌≐◌, ◌⟹◌}
-use Rattle.rational.proofs.OrderLaws.{eq_ℚ-decides}
 use Rattle.rational.proofs.RationalRing.{ring_ℚ}
 use Rattle.rational.proofs.Ring.{◌≐◌, ◌⊕◌, ◌⊖◌, ◌⊗◌, 𝟘}
-use Rattle.rational.proofs.Settling.{less-none, less-some, less_unless-in, settle-bind, settle-bind_none, settle-done}
+use Rattle.rational.proofs.Settling.{less_answer, less_unless-in, settle-bind, settle-bind_none, settle-done}
 use Rattle.rational.proofs.SparseLaws.{at_index-other}
 use Rattle.rational.proofs.SumLaws.{at_or_other, sum-change, sum-cong, sum-none}
 use Rattle.sparse_cols.specs.Sparse.{IsRising}
@@ -78,21 +77,6 @@ entry_before m from ((k, v) ∷ pairs) i h below =
 
 -- ── what the calculations come to ──
 
-less-answer : (r a b : ℚ) → (less r a b).answer ≡ r -ℚ a *ℚ b
-unfolding bind work done
-less-answer r a b = by (eq_ℚ a zero_ℚ) refl (eq_ℚ b zero_ℚ) refl
-  where
-    none : (a ≡ zero_ℚ) ⊎ (b ≡ zero_ℚ) → a *ℚ b ≡ zero_ℚ → (less r a b).answer ≡ r -ℚ a *ℚ b
-    none skipped nothing = ap (λ (c : Worked ℚ). c.answer) (less-none r a b skipped) ∙ linear 2 (λ r p. p ≐ 𝟘 ⟹ r ≐ r ⊖ p) (omega (arith, ints)) r (a *ℚ b) nothing
-
-    apart : (x : ℚ) → eq_ℚ x zero_ℚ ≡ false → x ≢ zero_ℚ
-    apart x e zero = let t : eq_ℚ x zero_ℚ ≡ true = (eq_ℚ-decides x zero_ℚ).1 zero in cc
-
-    by : (s : Bool) → eq_ℚ a zero_ℚ ≡ s → (t : Bool) → eq_ℚ b zero_ℚ ≡ t → (less r a b).answer ≡ r -ℚ a *ℚ b
-    by true e t f = let zero : a ≡ zero_ℚ = (eq_ℚ-decides a zero_ℚ).0 e in none (inl zero) (ap (λ x. x *ℚ b) zero ∙ ring_ℚ 1 (λ b. 𝟘 ⊗ b ≐ 𝟘) tt b)
-    by false e true f = let zero : b ≡ zero_ℚ = (eq_ℚ-decides b zero_ℚ).0 f in none (inr zero) (ap (λ x. a *ℚ x) zero ∙ ring_ℚ 1 (λ a. a ⊗ 𝟘 ≐ 𝟘) tt a)
-    by false e false f = ap (λ (c : Worked ℚ). c.answer) (less-some r a b (apart a e) (apart b f))
-
 module _ (skip m : ℕ) (past : m ≤ skip) (y : List ℚ) where
   -- the products of the entries with the vector's items are taken away
   gather-answer : (from : ℕ) (c : ℚ) (pairs : List (ℕ × ℚ)) → IsRising m from pairs → (gather skip y c pairs).answer ≡ c -ℚ sum_ℚ m (λ i. at y i *ℚ entry_at pairs i)
@@ -100,7 +84,7 @@ module _ (skip m : ℕ) (past : m ≤ skip) (y : List ℚ) where
   gather-answer from c [] h =
       linear 2 (λ c s. s ≐ 𝟘 ⟹ c ≐ c ⊖ s) (omega (arith, ints)) c (sum_ℚ m (λ i. at y i *ℚ zero_ℚ)) (sum-none m _ (λ i b. ring_ℚ 1 (λ a. a ⊗ 𝟘 ≐ 𝟘) tt (at y i)))
   gather-answer from c ((k, e) ∷ pairs) h =
-      ap (λ r. (gather skip y r pairs).answer) (ap (λ (c : Worked ℚ). c.answer) (less_unless-in (eqb k skip) c e (at y k) (ne_eqb k skip (omega (arith, h.1)))) ∙ less-answer c e (at y k))
+      ap (λ r. (gather skip y r pairs).answer) (ap (λ (c : Worked ℚ). c.answer) (less_unless-in (eqb k skip) c e (at y k) (ne_eqb k skip (omega (arith, h.1)))) ∙ less_answer c e (at y k))
       ∙ gather-answer (k + 1) (c -ℚ e *ℚ at y k) pairs h.2
       ∙ linear 6 (λ c p s f g z. s ≐ f ⊕ (g ⊖ z) ⟹ g ≐ p ⟹ z ≐ 𝟘 ⟹ c ⊖ p ⊖ f ≐ c ⊖ s) (omega (arith, ints)) c (e *ℚ at y k)
       (sum_ℚ m (λ i. at y i *ℚ entry_at ((k, e) ∷ pairs) i)) (sum_ℚ m (λ i. at y i *ℚ entry_at pairs i)) (at y k *ℚ entry_at ((k, e) ∷ pairs) k) (at y k *ℚ entry_at pairs k)

@@ -1,6 +1,6 @@
 -- How many numbers an instance stores.
-use Rattle.std.specs.Prelude.{ℕ, zero, suc, ◌+◌, length, not, sum_by, count_by}
-use Rattle.rational.specs.Rational.{zero_ℚ, eq_ℚ}
+use Rattle.std.specs.Prelude.{ℕ, zero, suc, ◌+◌, length, sum_by}
+use Rattle.rational.specs.Rational.{one_unless_zero}
 use Rattle.lp_run.specs.Instance.{Instance, column_kind}
 use Rattle.bland_ratio.specs.Pricing.{kind_entries}
 
@@ -10,7 +10,7 @@ stored_entries inst = sum_by (λ c. length c.entries) inst.structurals
 
 -- how many of their costs are not 0
 abbrev pub nonzero_costs : Instance → ℕ
-nonzero_costs inst = count_by (λ c. not (eq_ℚ c.cost zero_ℚ)) inst.structurals
+nonzero_costs inst = sum_by (λ c. one_unless_zero c.cost) inst.structurals
 
 -- the stored entries of the structurals and their costs that are not 0
 abbrev pub entry_count : Instance → ℕ

@@ -12,7 +12,8 @@ use Rattle.rational.specs.Lines.{gather}
 use Rattle.rational.specs.Rational.{ℚ, zero_ℚ, ◌+ℚ◌, ◌-ℚ◌, ◌*ℚ◌, cmp_ℚ, eq_ℚ}
 use Rattle.rational.specs.Sparse.{IsSparse, entry_at, upto}
 use Rattle.rational.specs.Sum.{at, sum_ℚ}
-use Rattle.rational.specs.Worked.{Worked, bind, done, is_skipped, less_unless, more, work}
+use Rattle.rational.specs.Worked.{Worked, done, is_skipped, less_unless, more, work}
+use Rattle.rational.proofs.AnswerLaws.{answer-bind, answer-done, answer-work}
 use Rattle.rational.proofs.OrderLaws.{eq_ℚ-decides}
 use Rattle.rational.proofs.RationalRing.{ring_ℚ}
 use Rattle.rational.proofs.Ring.{◌≐◌, ◌⊙◌≗◌⟹◌, ◌⊕◌, ◌⊖◌, ◌⊗◌, ⊝◌, 𝟘, 𝟙}
@@ -23,18 +24,6 @@ use Rattle.cert_check.specs.Inner.Groups.{scaled, with_part}
 use Rattle.cert_check.proofs.Scatter.{entry-before, entry-other, entry-own}
 
 -- ── the parts of a calculation ──
-
-pub answer-bind : {A B : Type 0} (c : Worked A) (f : A → Worked B) → (bind c f).answer ≡ (f c.answer).answer
-unfolding bind
-answer-bind c f = refl
-
-pub answer-done : {A : Type 0} (a : A) → (done a).answer ≡ a
-unfolding done
-answer-done a = refl
-
-pub answer-work : (a : ℚ) → (work a).answer ≡ a
-unfolding work
-answer-work a = refl
 
 skipped-zero : (a b : ℚ) → is_skipped a b ≡ true → a *ℚ b ≡ zero_ℚ
 unfolding is_skipped

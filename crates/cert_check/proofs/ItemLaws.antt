@@ -8,11 +8,12 @@ use Rattle.lp_model.specs.Deck.{Deck, IsDeck, Within, activity, activity_interva
 use Rattle.rational.specs.Rational.{ℚ, zero_ℚ, ◌+ℚ◌, ◌<ℚ◌, eq_ℚ, lt_ℚ}
 use Rattle.rational.specs.Sum.{at, sum_ℚ}
 use Rattle.rational.specs.Worked.{Worked, done, work}
+use Rattle.rational.proofs.AnswerLaws.{answer-bind, answer-done, answer-work}
 use Rattle.rational.proofs.OrderLaws.{eq_ℚ-decides}
 use Rattle.cert_check.specs.Items.{allows, basic_cost_item, basic_weight_item, basis_item, column_item, endless_column_item, endless_row_item, gap_item, is_among, is_at_end, is_at_rest, is_basis, is_within, objective_item, price_item, ray_column_item, ray_cost_item, ray_row_item, reduced_item, rest_item, row_item, zero_where}
 use Rattle.cert_check.specs.Sums.{activity_sum, all_parts, column_part, cost_sum, interval_sum, logical_part, objective_sum, parts_sum, reduced_sum, right_sum, weighted_sum}
 use Rattle.cert_check.specs.Inner.Groups.{exceeded, priced_by, within_interval}
-use Rattle.cert_check.proofs.Answered.{answer-activity, answer-all_parts, answer-bind, answer-column_part, answer-cost, answer-done, answer-logical_part, answer-objective, answer-reduced, answer-right, answer-weighted_column, answer-work}
+use Rattle.cert_check.proofs.Answered.{answer-activity, answer-all_parts, answer-column_part, answer-cost, answer-logical_part, answer-objective, answer-reduced, answer-right, answer-weighted_column}
 use Rattle.cert_check.proofs.Decided.{Allowed, allows-decides, at_end-decides, lt-decides, none-decides, within-decides}
 
 module _ (d : Deck) (x : List ℚ) where

@@ -1,12 +1,10 @@
 -- A number and its opposite take as much width, so a sum may be worked as a difference with the opposite factor.
-use Rattle.std.proofs.Common.{◌≡◌, ◌≢◌, ℕ, ◌^◌, ◌<◌, nat_abs, neg_ℤ, ltb, eqb, ◌&&◌, T, Bool, true, false, Option, Some, None, inl, inr, ◌⊎◌, refl, sym, ◌∙◌, ap, subst}
-use Rattle.rational.specs.Gcd.{gcd, is_lowest}
+use Rattle.std.proofs.Common.{◌≡◌, ◌≢◌, ℕ, Bool, true, false, Option, Some, None, inl, inr, ◌⊎◌, refl, sym, ◌∙◌, ap, subst}
 use Rattle.rational.specs.Rational.{ℚ, zero_ℚ, ◌+ℚ◌, ◌-ℚ◌, ◌*ℚ◌, neg_ℚ, eq_ℚ}
 use Rattle.rational.specs.Width.{FitsWidth, fits_width}
 use Rattle.rational.specs.Worked.{Worked, bind, less, more, settle, work}
-use Rattle.rational.proofs.Integer.{nat_abs-neg_ℤ}
+use Rattle.rational.proofs.Opposites.{fits-opposite}
 use Rattle.rational.proofs.OrderLaws.{eq_ℚ-decides}
-use Rattle.rational.proofs.Ratio.{denominator-ratio, numerator-ratio}
 use Rattle.rational.proofs.RationalRing.{ring_ℚ}
 use Rattle.rational.proofs.Ring.{◌≐◌, ◌⊙◌≗◌⟹◌, ◌⊕◌, ◌⊖◌, ◌⊗◌, ⊝◌, 𝟘, 𝟙}
 use Rattle.rational.proofs.Settling.{less-none, less-some, more-none, more-some, settle-bind, settle-bind_none, settle-work, settle-work_none}
@@ -34,17 +32,6 @@ work-fits w a v h = by_test (fits_width w a) refl
     by_test false e = absurd (let none = settle-work_none w a (λ fits. let tested = (fits_width-decides w a).1 fits in cc) in cc)
 
 -- ── opposites ──
-
-lowest-opposite : (a : ℚ) → T (is_lowest (neg_ℤ a.numerator) a.denominator)
-unfolding is_lowest
-lowest-opposite a = subst (λ n. T (eqb (gcd n a.denominator) 1 && ltb 0 a.denominator)) (sym (nat_abs-neg_ℤ a.numerator)) a.lowest
-
-pub fits-opposite : (w : ℕ) (a : ℚ) → FitsWidth w (neg_ℚ a) → FitsWidth w a
-unfolding neg_ℚ
-fits-opposite w a fits = record {
-  numerator_below = subst (λ n. n < 2 ^ w) (ap nat_abs (numerator-ratio (neg_ℤ a.numerator) a.denominator (lowest-opposite a)) ∙ nat_abs-neg_ℤ a.numerator) fits.numerator_below;
-  denominator_below = subst (λ n. n < 2 ^ w) (denominator-ratio (neg_ℤ a.numerator) a.denominator (lowest-opposite a)) fits.denominator_below;
-}
 
 -- a difference with the opposite factor that settles is the sum
 pub less-opposite : (w : ℕ) (r e x s : ℚ) → settle w (less r e (neg_ℚ x)) ≡ Some s → settle w (more r e x) ≡ Some s

@@ -7,11 +7,9 @@ use Rattle.exact_frac.specs.Count.{raised}
 use Rattle.std.specs.Arc.{arc_value}
 use Rattle.lp_model.specs.Log.{moves}
 use Rattle.lp_run.specs.Run.{IsRun}
-use Rattle.bland_ratio.specs.Entries.{stored_entries}
-use Rattle.run_outcome.specs.Endings.{cost_count}
-use Rattle.two_phase.specs.Tally.{HasWorked}
+use Rattle.bland_ratio.specs.Entries.{nonzero_costs, stored_entries}
+use Rattle.two_phase.specs.Tally.{HasRoundWorked, HasWorked}
 use Rattle.two_phase.proofs.Tallies.{whole_work}
-use Rattle.crew.proofs.Costs.{costs_are}
 use Rattle.factor_run.specs.Bound.{making_work, solve_work}
 use Rattle.factor_run.specs.Calm.{IsCalm}
 use Rattle.factor_run.proofs.Calmness.{no_unfit_choice, no_unfit_total}
@@ -20,6 +18,7 @@ use Rattle.two_phase.specs.Inner.Grounds.{IsPlain}
 use Rattle.two_phase.specs.declared.board.Board.{Board}
 use Rattle.two_phase.specs.declared.standing.BoardFault.{BoardFault}
 use Rattle.two_phase.specs.declared.standing.BoardFault.TheVariants as board
+use Rattle.two_phase.specs.declared.standing.Recorded.{Recorded}
 use Rattle.two_phase.proofs.Boards.{plain_mode}
 use Rattle.two_phase.proofs.Calms.{calm_ground}
 use Rattle.two_phase.proofs.Grounds.{reached_by}
@@ -87,6 +86,20 @@ module _ {A : Type 0} (w w' : ℕ) (width : w' ≡ w) (old asked : Board A) (h :
   pub asked_fits : (choice : Choice) → IsChoiceFor w' asked choice → choice.unfit ≡ false
   asked_fits choice chosen = calm_chosen w' asked (subst (λ w. BoardStands w asked) (sym width) h') calm_there choice chosen
 
+-- a round on a board of a run that began with the first one
+module _ {A : Type 0} (w w' : ℕ) (width : w' ≡ w) (first old new : Board A) (same : old.inst ≡ first.inst) (calm : IsCalm w first.inst.value) where
+  pub calm_yet : IsCalm w' old.inst.value
+  calm_yet = subst (λ w. IsCalm w old.inst.value) (sym width) (subst (λ i. IsCalm w (arc_value i)) (sym same) calm)
+
+  -- what it works comes to what the rounds before it have worked
+  pub round_worked : (before then now : ℕ) (r r' : Recorded) → r ≡ r' → (IsPlain old.ground → ⊥) → HasWorked first.inst.value old.log (length old.log) old.updates before then
+      → (IsCalm w' old.inst.value → (IsPlain old.ground → ⊥) → HasWorked old.inst.value old.log (length old.log) old.updates before then → HasRoundWorked old.inst.value new before now r)
+      → HasRoundWorked first.inst.value new before now r'
+  round_worked before then now r r' is factors worked work =
+      subst (HasRoundWorked first.inst.value new before now) is
+      (subst (λ i. HasRoundWorked (arc_value i) new before now r) same
+      (work calm_yet factors (subst (λ i. HasWorked (arc_value i) old.log (length old.log) old.updates before then) (sym same) worked)))
+
 -- two things that hold of an answer
 pub both_ok : {A E : Type 0} {P Q R : A → Type 0} (r : Result A E) → ((a : A) → P a → Q a → R a) → IfOk r P → IfOk r Q → IfOk r R
 both_ok (Ok a) f p q = f a p q
@@ -99,12 +112,12 @@ on_ok_all (Err e) p = tt
 -- the run and its close, counted together; the stored entries may be worked once more
 pub whole_solve : {A : Type 0} (w : ℕ) (old new : Board A) → new.inst ≡ old.inst → BoardStands w new → (made a₀ b₁ a₁ a₂ : ℕ)
     → HasWorked old.inst.value new.log (length new.log + 1) new.updates (made + a₀) (b₁ + a₁) → made ≤ stored_entries old.inst.value + making_work old.inst.value
-    → (moved : ℕ) → moved ≡ moves new.log → a₂ ≤ a₁ + (b₁ + cost_count new.inst.value) → a₂ + stored_entries old.inst.value ≤ a₀ + solve_work old.inst.value moved
+    → (moved : ℕ) → moved ≡ moves new.log → a₂ ≤ a₁ + (b₁ + nonzero_costs new.inst.value) → a₂ + stored_entries old.inst.value ≤ a₀ + solve_work old.inst.value moved
 whole_solve w old new same stands made a₀ b₁ a₁ a₂ (spent, tally, within) start moved is work =
     let inst = old.inst.value in
     let run : IsRun inst new.log (state_of new) = subst (λ i. IsRun (arc_value i) new.log (state_of new)) same (reached_by w new.inst.value new.log new.ground stands.stands) in
-    let close : a₂ ≤ a₁ + (b₁ + cost_count inst) = subst (λ i. a₂ ≤ a₁ + (b₁ + cost_count (arc_value i))) same work in
+    let close : a₂ ≤ a₁ + (b₁ + nonzero_costs inst) = subst (λ i. a₂ ≤ a₁ + (b₁ + nonzero_costs (arc_value i))) same work in
     let all : a₂ - a₀ + stored_entries inst ≤ solve_work inst (moves new.log) =
-    whole_work inst new.log (state_of new) run new.updates made spent (cost_count inst) (a₂ - a₀) tally start (omega (arith, costs_are inst)) (omega (arith, close, within)) in
+    whole_work inst new.log (state_of new) run new.updates made spent (nonzero_costs inst) (a₂ - a₀) tally start (omega arith) (omega (arith, close, within)) in
     let there : solve_work inst (moves new.log) ≡ solve_work inst moved = ap (solve_work inst) (sym is) in
     omega (arith, all, there)

@@ -1,4 +1,3 @@
 pub mod Complete
 pub mod Rounds
 pub mod Calms
-pub mod Costs

@@ -108,7 +108,7 @@ module _ (w : ℕ) (inst : Instance) (before later : ℕ) where
 
   pub start_fault : (budget : ℕ) (f : BoardFault) (r : CrewFault) → IsStartCause w inst before later f → IsFaultFor f r → IsCause w inst budget r
   start_fault budget board.Memory r cause is = subst (IsCause w inst budget) (sym is) tt
-  start_fault budget (board.Overflow here) r ((s, run, first), rose) is = subst (IsCause w inst budget) (sym is) ([], s, run, omega arith, inl first)
+  start_fault budget (board.Overflow here) r ((s, run, first), rose, unfit) is = subst (IsCause w inst budget) (sym is) ([], s, run, omega arith, inl first)
   start_fault budget (board.Stale n) r cause is = absurd is
   start_fault budget (board.Ended s) r cause is = absurd is
 

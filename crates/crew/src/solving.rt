@@ -6,12 +6,11 @@ ghost use Rattle.two_phase.specs.Board.{BoardStands, HasEnded, HasGivenUp, HasNo
 ghost use Rattle.two_phase.specs.declared.standing.Standing.{Standing};
 ghost use Rattle.lp_model.specs.Log.{moves};
 ghost use Rattle.lp_run.specs.Instance.{row_count};
-ghost use Rattle.bland_ratio.specs.Entries.{stored_entries};
+ghost use Rattle.bland_ratio.specs.Entries.{nonzero_costs, stored_entries};
 ghost use Rattle.factor_run.specs.Bound.{making_work, solve_work};
 ghost use Rattle.factor_run.specs.Calm.{IsCalm};
-ghost use Rattle.run_outcome.specs.Endings.{cost_count};
 ghost use Rattle.two_phase.specs.Inner.Grounds.{IsPlain};
-ghost use Rattle.two_phase.specs.Inner.Works.{ground_owed, move_work, recorded_work};
+ghost use Rattle.two_phase.specs.Works.{ground_owed, move_work, recorded_work};
 ghost use Rattle.two_phase.specs.Tally.{HasRoundWorked, HasWorked, IsFresh};
 ghost use Rattle.crew.specs.Answers.{IsCause, Solves};
 ghost use Rattle.crew.specs.Inner.Works.{IsCalmFault};
@@ -100,7 +99,7 @@ fn close<A: Arith>(alloc: Global, board: Board<A>, arith: &mut A) -> Result<Clos
     ensures width { A.width arith.new ≡ A.width arith.old }
     ensures unfit { A.unfit_count arith.old ≤ A.unfit_count arith.new }
     ensures calm { IsCalm (A.width arith.old) board.inst.value → A.unfit_count board.arith ≡ 0 → (A.unfit_count arith.new ≡ A.unfit_count arith.old) × IfErr result IsCalmFault }
-    ensures work { IfOk result (λ closed. (closed.moves ≡ moves board.log) × (A.work_count arith.new ≤ A.work_count arith.old + (A.work_count board.arith + cost_count board.inst.value))) }
+    ensures work { IfOk result (λ closed. (closed.moves ≡ moves board.log) × (A.work_count arith.new ≤ A.work_count arith.old + (A.work_count board.arith + nonzero_costs board.inst.value))) }
 {
     match board.close(alloc) {
         Ok((closed, used)) => {

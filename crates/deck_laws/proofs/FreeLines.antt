@@ -1,8 +1,8 @@
 -- The card of a line that was laid out in free form has the tokens that it was laid out from.
-use Rattle.std.proofs.Common.{◌≡◌, ℕ, ◌+◌, ◌≤◌, Bool, true, false, ◌&&◌, cond, List, [], ◌∷◌, ◌++◌, length, get_or, take, filter, Some, Ok, refl, sym, ap, ◌∙◌, arith, append_assoc}
+use Rattle.std.proofs.Common.{◌≡◌, ℕ, ◌+◌, ◌≤◌, Bool, true, false, ◌&&◌, cond, List, [], ◌∷◌, ◌++◌, length, get_or, take, Some, Ok, refl, sym, ap, ◌∙◌, arith, append_assoc}
 use Rattle.std.proofs.Common.{append-nil, length-append, nat_lt}
 use Rattle.std.specs.List.{list_all, list_any}
-use Rattle.std.proofs.lemmas.Bool.{and_from, and_parts, lt-ltb, le-ltb, or_from}
+use Rattle.std.proofs.lemmas.Bool.{and_from, and_parts, le-ltb, or_from}
 use Rattle.std.proofs.lemmas.Bool.Decides.{nat_tests}
 use Rattle.std.proofs.lemmas.List.{take_all}
 use Rattle.std.proofs.lemmas.List.Folds.{list_all-append, list_any-append}
@@ -10,16 +10,11 @@ use Rattle.deck_tools.specs.Layout.{with_field}
 use Rattle.lp_text.specs.Cards.{is_blank, is_printable, onto_first_piece, pieces_of, without_return, words_of}
 use Rattle.lp_text.specs.FreeCards.{free_card_in}
 use Rattle.lp_text.specs.declared.Form.TheVariants.{Free}
+use Rattle.lp_text.proofs.Pieces.{full, full-first}
 use Rattle.deck_laws.specs.Spellable.{is_mark}
 use Rattle.deck_laws.proofs.FixedCards.{no_return_dropped}
 
 -- ── words ──
-
-abbrev full : List (List ℕ) → List (List ℕ)
-full pieces = filter (λ piece. nat_lt 0 (length piece)) pieces
-
-full-first : (c : ℕ) (word : List ℕ) (pieces : List (List ℕ)) → full ((c ∷ word) ∷ pieces) ≡ (c ∷ word) ∷ full pieces
-full-first c word pieces = ap (λ b. cond b ((c ∷ word) ∷ full pieces) (full pieces)) (lt-ltb 0 (length (c ∷ word)) (omega arith))
 
 -- a byte before a first piece that is not empty
 full-onto : (c d : ℕ) (pieces : List (List ℕ)) → full (onto_first_piece c (onto_first_piece d pieces)) ≡ onto_first_piece c (full (onto_first_piece d pieces))

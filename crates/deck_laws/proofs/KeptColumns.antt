@@ -4,12 +4,11 @@ use Rattle.std.proofs.Common.{refl, sym, ap, subst, ◌∙◌, arith, nat_lt, in
 use Rattle.std.specs.Prelude.{◌==◌, IfSome, if◌then◌else◌, sum_by}
 use Rattle.std.specs.List.{AllByRecursion, IsDistinct, list_any}
 use Rattle.std.proofs.lemmas.Bool.{cases_Bool, ltb-true, or_left, or_parts, or_right, true≢false}
-use Rattle.std.proofs.lemmas.Bool.Decides.{nat_tests}
 use Rattle.std.proofs.lemmas.List.{length-set, map-append}
 use Rattle.std.proofs.lemmas.List.Sums.{sum_by_push}
 use Rattle.rational.specs.Rational.{ℚ, eq_ℚ, le_ℚ, lt_ℚ, neg_ℚ, whole, zero_ℚ}
 use Rattle.rational.proofs.OrderLaws.{eq_ℚ-decides}
-use Rattle.deck_model.proofs.Sparse.{length-insert_entry, sparse-insert_entry}
+use Rattle.deck_model.proofs.Sparse.{entry-insert_entry, length-insert_entry, sparse-insert_entry}
 use Rattle.lp_model.specs.Deck.{Column, Interval, column, no_column, row as row_at}
 use Rattle.lp_model.specs.Edit.{change_column, entry_count, find_column, has_entry, insert_entry, same_bytes, with_column, with_cost, with_entry}
 use Rattle.lp_text.proofs.SameBytes.{same_bytes-own}
@@ -80,33 +79,6 @@ all-insert i v ((k, u) ∷ es) fits h = by (nat_lt i k) (all-insert i v es fits 
         × ℚ). IsNumber e.1) (if b then (i, v) ∷ (k, u) ∷ es else ((k, u) ∷ insert_entry i v es))
     by true rest = (fits, h)
     by false rest = (h.0, rest)
-
-has-insert : (i : ℕ) (v : ℚ) (es : List (ℕ × ℚ)) (m : ℕ) → has_entry (insert_entry i v es) m ≡ true → (i ≡ m) ⊎ (has_entry es m ≡ true)
-has-insert i v [] m h = first (i == m) refl h
-  where
-    same : (i == m) ≡ true → i ≡ m
-    same e = grind (arith, nat_tests)
-
-    first : (b : Bool) → (i == m) ≡ b → (b || false) ≡ true → (i ≡ m) ⊎ (false ≡ true)
-    first true e h = inl (same e)
-    first false e h = inr h
-has-insert i v ((k, u) ∷ es) m h = by (nat_lt i k) (has-insert i v es m) h
-  where
-    same : (i == m) ≡ true → i ≡ m
-    same e = grind (arith, nat_tests)
-
-    front : (b : Bool) → (i == m) ≡ b → (b || (k == m || has_entry es m)) ≡ true → (i ≡ m) ⊎ ((k == m || has_entry es m) ≡ true)
-    front true e h = inl (same e)
-    front false e h = inr h
-
-    behind : (b : Bool) → (has_entry (insert_entry i v es) m ≡ true → (i ≡ m) ⊎ (has_entry es m ≡ true)) → (b || has_entry (insert_entry i v es) m) ≡ true → (i ≡ m) ⊎ ((b || has_entry es m) ≡ true)
-    behind true rest h = inr refl
-    behind false rest h = rest h
-
-    by : (b : Bool) → (has_entry (insert_entry i v es) m ≡ true → (i ≡ m) ⊎ (has_entry es m ≡ true)) → has_entry (if b then (i, v) ∷ (k, u) ∷ es else ((k, u) ∷ insert_entry i v es)) m ≡ true
-        → (i ≡ m) ⊎ ((k == m || has_entry es m) ≡ true)
-    by true rest h = front (i == m) refl h
-    by false rest h = behind (k == m) rest h
 
 zero_end : IsEnd zero_ℚ
 unfolding le_ℚ zero_ℚ whole neg_ℚ
@@ -245,7 +217,7 @@ module _ (form : Form) (b : List Section) where
               upper = h.upper;
             }) (omega (arith, one, below))
             (λ k h. elim (last_is g) [
-              | inl new ↦ elim (has-insert i v last.entries k (subst (λ (q : Column). has_entry q.entries k ≡ true) new h)) [
+              | inl new ↦ elim (entry-insert_entry i v last.entries k (subst (λ (q : Column). has_entry q.entries k ≡ true) new h)) [
                 | inl same ↦ or_left (same_bytes (row_at s.deck k).name name) (is_among (row_at s.deck k).name s.named)
                     (ap (λ m. same_bytes (row_at s.deck m).name name) (sym same) ∙ ap (λ n. same_bytes n name) own ∙ same_bytes-own name)
                 | inr had ↦ named_more k had

@@ -1,15 +1,13 @@
 -- The text of a deck is read as the deck.
-use Rattle.std.proofs.Common.{◌≡◌, ℕ, ◌^◌, ◌<◌, ◌≤◌, Bool, true, false, not, ◌&&◌, ◌||◌, List, [], ◌∷◌, ◌++◌, length, map, find, nat_abs, neg_ℤ, eqb, ltb, T, Option, Some, None}
+use Rattle.std.proofs.Common.{◌≡◌, ℕ, ◌≤◌, Bool, true, false, not, ◌&&◌, ◌||◌, List, [], ◌∷◌, ◌++◌, length, map, find, Option, Some, None}
 use Rattle.std.proofs.Common.{Ok, refl, sym, ap, ap₂, subst, ◌∙◌, arith, inl, inr, ◌⊎◌}
 use Rattle.std.specs.Prelude.{IfSome, codes, if◌then◌else◌}
 use Rattle.std.specs.List.{AllByRecursion, IsDistinct, flat_map}
 use Rattle.std.proofs.lemmas.Bool.{or_from}
 use Rattle.std.proofs.lemmas.List.{map-id}
 use Rattle.std.proofs.lemmas.List.Elements.{recursion_from_All}
-use Rattle.rational.specs.Gcd.{gcd, is_lowest}
 use Rattle.rational.specs.Rational.{ℚ, eq_ℚ, neg_ℚ, zero_ℚ}
-use Rattle.rational.proofs.Integer.{nat_abs-neg_ℤ}
-use Rattle.rational.proofs.Ratio.{denominator-ratio, numerator-ratio}
+use Rattle.rational.proofs.Opposites.{opposite-fits}
 use Rattle.rational.proofs.RationalRing.{ring_ℚ}
 use Rattle.rational.proofs.Ring.{◌≐◌, ⊝◌}
 use Rattle.rational.proofs.WidthLaws.{fits_from_test, fits_width-decides}
@@ -41,18 +39,8 @@ use Rattle.deck_laws.proofs.Taken.{at, name_given, range_taken, right_taken}
 
 -- ── the number with its sign turned ──
 
-lowest_turned : (a : ℚ) → T (is_lowest (neg_ℤ a.numerator) a.denominator)
-unfolding is_lowest
-lowest_turned a = subst (λ n. T (eqb (gcd n a.denominator) 1 && ltb 0 a.denominator)) (sym (nat_abs-neg_ℤ a.numerator)) a.lowest
-
 pub turned_fits : (a : ℚ) → IsNumber a → IsNumber (neg_ℚ a)
-unfolding neg_ℚ
-turned_fits a fits =
-    let h = fits_from_test 127 a fits in
-    (fits_width-decides 127 (neg_ℚ a)).1 (record {
-      numerator_below = subst (λ n. n < 2 ^ 127) (sym (ap nat_abs (numerator-ratio (neg_ℤ a.numerator) a.denominator (lowest_turned a)) ∙ nat_abs-neg_ℤ a.numerator)) h.numerator_below;
-      denominator_below = subst (λ n. n < 2 ^ 127) (sym (denominator-ratio (neg_ℤ a.numerator) a.denominator (lowest_turned a))) h.denominator_below;
-    })
+turned_fits a fits = (fits_width-decides 127 (neg_ℚ a)).1 (opposite-fits 127 a (fits_from_test 127 a fits))
 
 turned_back : (a : ℚ) → neg_ℚ (neg_ℚ a) ≡ a
 turned_back a = ring_ℚ 1 (λ x. ⊝ (⊝ x) ≐ x) tt a

@@ -13,13 +13,13 @@ use Rattle.deck_model.specs.declared.deck.RowData.{RowData}
 use Rattle.deck_model.specs.declared.deck.ColumnData.{ColumnData}
 use Rattle.deck_model.specs.declared.deck.Deck.TheInside.{Inside}
 use Rattle.deck_model.specs.Parts.{row_of, column_of, deck_of, FitsRows, IsSound}
-use Rattle.deck_model.proofs.Count.{count_in, entry_count-count_of, one_unless_zero}
+use Rattle.deck_model.proofs.Count.{count_in, entry_count-count_of}
 use Rattle.deck_model.proofs.Lists.{map-push}
 use Rattle.exact_frac.specs.Constants.{ratio-zero}
 use Rattle.lp_model.specs.declared.RowKind.{RowKind}
 use Rattle.rational.specs.Sparse.{IsSparse}
 use Rattle.lp_model.specs.Deck.{no_row, no_column}
-use Rattle.rational.specs.Rational.{ℚ, ratio, zero_ℚ}
+use Rattle.rational.specs.Rational.{ℚ, one_unless_zero, ratio, zero_ℚ}
 use Rattle.rational.proofs.OrderLaws.{eq_ℚ-decides}
 use Rattle.sparse_cols.specs.Sparse.{Sparse}
 

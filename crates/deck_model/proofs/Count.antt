@@ -1,5 +1,5 @@
 -- How many entries and costs are not 0: in one column, and after a column is changed.
-use Rattle.std.proofs.Common.{◌≡◌, ℕ, ◌+◌, ◌*◌, ◌^◌, ◌≤◌, Bool, true, false, cond, List, length, map, sum_by, set, slice_get, Some, sym, ap, ◌∙◌, arith}
+use Rattle.std.proofs.Common.{◌≡◌, ℕ, ◌+◌, ◌*◌, ◌^◌, ◌≤◌, List, length, map, sum_by, set, slice_get, Some, sym, ap, ◌∙◌, arith}
 use Rattle.std.specs.List.{All}
 use Rattle.std.specs.Map.{values_of}
 use Rattle.std.proofs.lemmas.List.Elements.{All-weaker}
@@ -11,19 +11,9 @@ use Rattle.deck_model.specs.Parts.{column_of, FitsRows}
 use Rattle.deck_model.proofs.Lists.{sum_by-map, values_of-set_value_at}
 use Rattle.indexmap.specs.IndexMap.{set_value_at}
 use Rattle.lp_model.specs.Deck.{Column}
-use Rattle.rational.specs.Rational.{ℚ, zero_ℚ, eq_ℚ}
+use Rattle.rational.specs.Rational.{one_unless_zero}
+use Rattle.rational.proofs.OrderLaws.{one_unless_zero-le}
 use Rattle.rational.proofs.SparseLaws.{length-le-sparse}
-
--- 0 for 0, and 1 for another number
-abbrev pub one_unless_zero : ℚ → ℕ
-one_unless_zero v = cond (eq_ℚ v zero_ℚ) 0 1
-
-pub one_unless_zero-le : (v : ℚ) → one_unless_zero v ≤ 1
-one_unless_zero-le v = by (eq_ℚ v zero_ℚ)
-  where
-    by : (b : Bool) → cond b 0 1 ≤ 1
-    by true = omega arith
-    by false = omega arith
 
 abbrev pub count_in : ColumnData → ℕ
 count_in c = length c.entries.pairs + one_unless_zero c.cost

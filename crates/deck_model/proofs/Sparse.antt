@@ -1,6 +1,7 @@
 -- Sparse columns: how long they are, and what a new entry leaves.
-use Rattle.std.proofs.Common.{◌≡◌, ◌≢◌, ℕ, ◌+◌, ◌<◌, ◌≤◌, Bool, true, false, ◌||◌, cond, List, [], ◌∷◌, length, None, Some, is_some, nat_lt, refl, ap, ◌∙◌, arith}
+use Rattle.std.proofs.Common.{◌≡◌, ◌≢◌, ℕ, ◌+◌, ◌<◌, ◌≤◌, Bool, true, false, ◌||◌, cond, List, [], ◌∷◌, length, None, Some, is_some, nat_lt, ◌⊎◌, inl, inr, refl, ap, ◌∙◌, arith}
 use Rattle.std.specs.Prelude.{◌==◌}
+use Rattle.std.proofs.lemmas.Bool.{eqb-true, or_cases}
 use Rattle.std.proofs.lemmas.Bool.Decides.{nat_tests}
 use Rattle.deck_model.proofs.Lists.{none_from_is_some}
 use Rattle.rational.specs.Sparse.{IsSparse}
@@ -25,6 +26,23 @@ length-insert_entry i v ((k, u) ∷ pairs) = by (nat_lt i k) (length-insert_entr
     by : (b : Bool) → length (insert_entry i v pairs) ≡ length pairs + 1 → length (cond b ((i, v) ∷ (k, u) ∷ pairs) ((k, u) ∷ insert_entry i v pairs)) ≡ length ((k, u) ∷ pairs) + 1
     by true rest = omega arith
     by false rest = omega (arith, rest)
+
+-- an entry afterwards is the new one or one that was there
+pub entry-insert_entry : (i : ℕ) (v : ℚ) (pairs : List (ℕ × ℚ)) (m : ℕ) → has_entry (insert_entry i v pairs) m ≡ true → (i ≡ m) ⊎ (has_entry pairs m ≡ true)
+entry-insert_entry i v [] m has = elim (or_cases (i == m) false has) [ inl here ↦ inl (eqb-true i m here) | inr none ↦ inr none ]
+entry-insert_entry i v ((k, u) ∷ pairs) m has = by_test (nat_lt i k) (entry-insert_entry i v pairs m) has
+  where
+    joined : (a b : Bool) → b ≡ true → (a || b) ≡ true
+    joined true b e = refl
+    joined false b e = e
+
+    by_test : (t : Bool) → (has_entry (insert_entry i v pairs) m ≡ true → (i ≡ m) ⊎ (has_entry pairs m ≡ true))
+        → has_entry (cond t ((i, v) ∷ (k, u) ∷ pairs) ((k, u) ∷ insert_entry i v pairs)) m ≡ true → (i ≡ m) ⊎ (has_entry ((k, u) ∷ pairs) m ≡ true)
+    by_test true later e = elim (or_cases (i == m) (k == m || has_entry pairs m) e) [ inl here ↦ inl (eqb-true i m here) | inr old ↦ inr old ]
+    by_test false later e = elim (or_cases (k == m) (has_entry (insert_entry i v pairs) m) e) [
+      | inl here ↦ inr (ap (λ b. b || has_entry pairs m) here)
+      | inr rest ↦ elim (later rest) [ inl own ↦ inl own | inr old ↦ inr (joined (k == m) (has_entry pairs m) old) ]
+    ]
 
 before : (i k : ℕ) → nat_lt i k ≡ true → i + 1 ≤ k
 before i k h = grind (arith, nat_tests)

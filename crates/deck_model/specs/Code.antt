@@ -7,7 +7,7 @@ use Rattle.lp_model.specs.declared.Sense.{Sense}
 use Rattle.lp_model.specs.declared.Sense.TheVariants.{Min, Max}
 use Rattle.lp_model.specs.Deck.{Row, Column, Interval, Deck}
 use Rattle.rational.specs.Rational.{ℚ}
-use Rattle.rational.proofs.Stored.{code_ℚ}
+use Rattle.rational.specs.Stored.{code_ℚ}
 
 abbrev kind_number : RowKind → ℕ
 kind_number L = 0

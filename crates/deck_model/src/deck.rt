@@ -1,8 +1,8 @@
 //! Decks: their calls, and the rows and columns that they keep.
-ghost use Rattle.std.specs.Prelude.{◌≡◌, ◌≢◌, ◌<◌, ◌≤◌, ◌↔◌, false, IsTrue, IfOk, IsErrOf, OnOk, OnErr, None, if◌then◌else◌, length};
+ghost use Rattle.std.specs.Prelude.{◌≡◌, ◌≢◌, ◌<◌, ◌≤◌, ◌↔◌, false, IsTrue, IfOk, IsErrOf, OnOk, OnErr, None, length};
 ghost use Rattle.lp_model.specs.Deck.{row as row_at, column as column_at, IsDeck, IsUncrossed};
 ghost use Rattle.lp_model.specs.Edit.{new_deck, find_row, find_column, is_row_name, is_column_name, with_row, with_column, with_entry, with_cost, with_bounds, with_right, with_range, with_sense, with_constant, has_entry, entry_count};
-ghost use Rattle.rational.specs.Rational.{zero_ℚ, eq_ℚ};
+ghost use Rattle.rational.specs.Rational.{one_unless_zero, zero_ℚ};
 ghost use Rattle.deck_model.specs.End.{interval, ends_of};
 ghost use Rattle.deck_model.specs.Named.{HasNamedRows, HasNamedColumns};
 
@@ -391,7 +391,7 @@ impl Deck {
 
 // 0 for the number 0, and 1 for any other.
 fn count(value: Frac) -> usize
-    ensures { result ≡ (if eq_ℚ value zero_ℚ then 0 else 1) }
+    ensures { result ≡ one_unless_zero value }
 {
     if value.is_zero() { 0 } else { 1 }
 }

@@ -30,7 +30,7 @@ pub struct Frac {
 
 impl Model for Frac {
     ghost use Rattle.rational.specs.Rational.{ℚ, ratio};
-    ghost use Rattle.rational.proofs.Stored.{code_ℚ};
+    ghost use Rattle.rational.specs.Stored.{code_ℚ};
     ghost use Rattle.rational.proofs.Ratio.{numerator-ratio, denominator-ratio};
     ghost use Rattle.exact_frac.specs.Parts.{FitsLowest};
     ghost use Rattle.std.proofs.Common.{ap₂};

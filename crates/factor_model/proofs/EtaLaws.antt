@@ -3,6 +3,7 @@ use Rattle.std.proofs.Common.{◌≡◌, ℕ, ◌<◌, List, [], ◌∷◌, ◌+
 use Rattle.std.specs.List.{AllByRecursion}
 use Rattle.std.proofs.lemmas.List.{length-set, get_or-set_same, get_or-set_other, reverse-append, map-append}
 use Rattle.rational.specs.Rational.{ℚ, zero_ℚ, ◌+ℚ◌, ◌-ℚ◌, ◌*ℚ◌}
+use Rattle.rational.proofs.AnswerLaws.{answer-bind, answer-done}
 use Rattle.rational.proofs.RationalRing.{ring_ℚ}
 use Rattle.rational.proofs.Ring.{◌≐◌, ◌⊕◌, ◌⊖◌, ◌⊗◌}
 use Rattle.rational.specs.Sum.{at, sum_ℚ}
@@ -14,7 +15,7 @@ use Rattle.factor_model.specs.declared.Op.{Op}
 use Rattle.factor_model.specs.declared.Op.TheVariants.{Column, Row}
 use Rattle.factor_model.specs.Vectors.{other_entry}
 use Rattle.factor_model.specs.Eta.{operate, apply, apply_back, transposed, IsOp}
-use Rattle.factor_model.proofs.LineLaws.{answer-bind, answer-done, answer-gather, answer-subtract, length-subtract}
+use Rattle.factor_model.proofs.LineLaws.{answer-gather, answer-subtract, length-subtract}
 
 -- the product of two vectors of n items
 abbrev pub inner : ℕ → List ℚ → List ℚ → ℚ

@@ -7,6 +7,7 @@ use Rattle.std.proofs.lemmas.List.Elements.{recursion_from_All}
 use Rattle.rational.specs.Rational.{ℚ, zero_ℚ, one_ℚ, ◌+ℚ◌, ◌-ℚ◌, ◌*ℚ◌}
 use Rattle.rational.specs.Sparse.{at_index}
 use Rattle.rational.specs.Matrix.{IsRegular, matrix_times, times_matrix}
+use Rattle.rational.proofs.AnswerLaws.{answer-bind, answer-done}
 use Rattle.rational.proofs.RationalRing.{ring_ℚ}
 use Rattle.rational.proofs.Ring.{◌≐◌, ◌⊕◌, ◌⊖◌, ◌⊗◌, 𝟘}
 use Rattle.rational.specs.Sum.{at, sum_ℚ}
@@ -23,7 +24,7 @@ use Rattle.factor_model.specs.Eta.{operate, apply, apply_back, transposed, IsOp}
 use Rattle.factor_model.specs.Upper.{Triangle, IsUpper, cell, solve, solve_back}
 use Rattle.factor_model.specs.Represents.{Represents}
 use Rattle.factor_model.specs.Factors.{Factors, AreFactors, ftran, btran}
-use Rattle.factor_model.proofs.LineLaws.{answer-bind, answer-done, answer-subtract, length-subtract, other-skip}
+use Rattle.factor_model.proofs.LineLaws.{answer-subtract, length-subtract, other-skip}
 use Rattle.factor_model.proofs.EtaLaws.{inner, length-operate, length-apply, back-first, transposes}
 use Rattle.factor_model.proofs.UpperLaws.{solves_row, solves_position, length-solve_back}
 use Rattle.factor_model.proofs.UpdateLaws.{row-own, row-other}

@@ -10,6 +10,7 @@ use Rattle.std.proofs.lemmas.List.Sums.{sum_by-append}
 use Rattle.rational.specs.Rational.{ℚ, zero_ℚ, ◌-ℚ◌, ◌*ℚ◌, ◌/ℚ◌}
 use Rattle.rational.specs.Sum.{at}
 use Rattle.rational.specs.Worked.{done}
+use Rattle.rational.proofs.AnswerLaws.{answer-bind, answer-done}
 use Rattle.rational.proofs.FieldLaws.{/ℚ-*ℚ}
 use Rattle.rational.proofs.RationalRing.{ring_ℚ}
 use Rattle.rational.proofs.Ring.{◌≐◌, ◌⊙◌≗◌⟹◌, ◌⊕◌, ◌⊖◌, ◌⊗◌, 𝟘, 𝟙, literal, ring_ℤ, of_pos}
@@ -22,7 +23,7 @@ use Rattle.factor_model.specs.Eta.{operate, apply, IsOp, entries, stored}
 use Rattle.factor_model.specs.Upper.{In, Pairwise}
 use Rattle.factor_model.specs.Represents.{made}
 use Rattle.factor_model.specs.Factoring.{Elimination, Eliminated, eliminate, others, with_pivot, pivoted, start}
-use Rattle.factor_model.proofs.LineLaws.{answer-bind, answer-done, answer-subtract, other-skip, other-other}
+use Rattle.factor_model.proofs.LineLaws.{answer-subtract, other-skip, other-other}
 use Rattle.factor_model.proofs.EtaLaws.{answer-apply, apply-append, length-apply}
 use Rattle.factor_model.proofs.Orders.{in_append, in_right, in_whole, whole_below}
 use Rattle.factor_model.proofs.EditLaws.{in_others, others_in, moved-permutes, Pairwise-map, Pairwise-others}

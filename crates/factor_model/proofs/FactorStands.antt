@@ -5,16 +5,16 @@ use Rattle.std.proofs.lemmas.Bool.{cond-true, cond-false}
 use Rattle.std.proofs.lemmas.List.{nil_from_length}
 use Rattle.rational.specs.Rational.{ℚ, zero_ℚ}
 use Rattle.rational.specs.Worked.{Worked, done, bind}
+use Rattle.rational.proofs.AnswerLaws.{answer-bind, answer-done}
 use Rattle.rational.proofs.OrderLaws.{eq_ℚ-decides, eq_ℚ-other}
 use Rattle.factor_model.specs.Upper.{In}
 use Rattle.factor_model.specs.Factoring.{Elimination, is_entry, cost, active_entries, better, first_least, least, eliminated, pivoted}
-use Rattle.factor_model.proofs.LineLaws.{answer-bind, answer-done}
 use Rattle.factor_model.proofs.PivotLaws.{cases_ℚ}
 use Rattle.factor_model.proofs.FactorReaches.{IsReached, pivoted-reached, pivoted-rows}
 
 -- ---- lists
 
-all_append : {A : Type 0} (P : A → Type 0) (xs ys : List A) → AllByRecursion P xs → AllByRecursion P ys → AllByRecursion P (xs ++ ys)
+pub all_append : {A : Type 0} (P : A → Type 0) (xs ys : List A) → AllByRecursion P xs → AllByRecursion P ys → AllByRecursion P (xs ++ ys)
 all_append P [] ys p q = q
 all_append P (x ∷ xs) ys p q = (p.0, all_append P xs ys p.1 q)
 

@@ -12,6 +12,7 @@ use Rattle.rational.specs.Matrix.{IsRegular}
 use Rattle.rational.specs.Sparse.{at_index}
 use Rattle.rational.specs.Sum.{at}
 use Rattle.rational.specs.Worked.{done}
+use Rattle.rational.proofs.AnswerLaws.{answer-bind, answer-done}
 use Rattle.rational.proofs.SparseLaws.{at_index-same}
 use Rattle.rational.proofs.SumLaws.{sum-cong}
 use Rattle.rational.proofs.VectorLaws.{get-map-upto, length-map-upto}
@@ -23,7 +24,6 @@ use Rattle.factor_model.specs.Eta.{apply, apply_back, transposed, IsOp, stored}
 use Rattle.factor_model.specs.Upper.{Triangle, IsUpper, ComesBefore, In, Pairwise, column, row_of, cell, diagonal}
 use Rattle.factor_model.specs.Represents.{Represents}
 use Rattle.factor_model.specs.Factoring.{Elimination, Factored, whole, singular, IsDependence, row_paired, form_of, factored_by, eliminated, start, factored}
-use Rattle.factor_model.proofs.LineLaws.{answer-bind, answer-done}
 use Rattle.factor_model.proofs.EtaLaws.{length-apply, back-first, transposes}
 use Rattle.factor_model.proofs.Orders.{in_whole, whole_below}
 use Rattle.factor_model.proofs.UpdateLaws.{row-other}

@@ -94,7 +94,7 @@ first_least-start f g (entry ∷ entries) same = first_least-same f g entry entr
 abbrev pub Agree : ℕ → (ℕ → ℕ → ℚ) → (ℕ → ℕ → ℚ) → Type 0
 Agree n a b = (i p : ℕ) → i < n → p < n → a i p ≡ b i p
 
-upto-below : (n p : ℕ) → In p (upto n) → p < n
+pub upto-below : (n p : ℕ) → In p (upto n) → p < n
 upto-below n p held = whole_below n (upto n) (IsPermutation-refl (range_with_len 0 n)) p held
 
 module _ (n : ℕ) where

@@ -13,5 +13,6 @@ pub mod FactorReaches
 pub mod FactorStands
 pub mod FactoredLaws
 pub mod FactoredSame
+pub mod DiagonalLaws
 pub mod UpdatedLaws
 mod WorkedCases

@@ -1,56 +1,17 @@
 -- Closed forms: what a sparse column worked into a vector, or out of one item, leaves.
-use Rattle.std.proofs.Common.{◌≡◌, ◌≢◌, ℕ, ◌+◌, ◌<◌, Bool, true, false, cond, eqb, List, [], ◌∷◌, length, set, ◌⊎◌, inl, inr, ⊎_elim, refl, sym, ◌∙◌, ap, ap₂, subst, arith}
+use Rattle.std.proofs.Common.{◌≡◌, ◌≢◌, ℕ, ◌+◌, ◌<◌, Bool, true, false, cond, eqb, List, [], ◌∷◌, length, set, ◌⊎◌, ⊎_elim, refl, sym, ◌∙◌, ap, ap₂, subst, arith}
 use Rattle.std.proofs.lemmas.Bool.{cases_eq, eq-eqb, ne_eqb, cond-true, cond-false}
 use Rattle.std.proofs.lemmas.List.{length-set, get_or-set_same, get_or-set_other}
-use Rattle.rational.specs.Rational.{ℚ, zero_ℚ, ◌-ℚ◌, ◌*ℚ◌, ◌+ℚ◌, eq_ℚ}
+use Rattle.rational.specs.Rational.{ℚ, zero_ℚ, ◌-ℚ◌, ◌*ℚ◌, ◌+ℚ◌}
 use Rattle.rational.proofs.RationalRing.{ring_ℚ}
 use Rattle.rational.proofs.Ring.{◌≐◌, ◌⊙◌≗◌⟹◌, ◌⊕◌, ◌⊖◌, ◌⊗◌, 𝟘, 𝟙}
 use Rattle.rational.specs.Sum.{at, sum_ℚ}
-use Rattle.rational.specs.Worked.{Worked, done, work, bind, less, less_unless}
+use Rattle.rational.specs.Worked.{less_unless}
 use Rattle.rational.specs.Lines.{gather, subtract}
 use Rattle.rational.proofs.SumLaws.{sum-none, sum-change}
-use Rattle.rational.proofs.OrderLaws.{eq_ℚ-decides}
-use Rattle.rational.proofs.Settling.{less-none, less-some, less_unless-out, less_unless-in}
+use Rattle.rational.proofs.AnswerLaws.{answer-bind, answer-done, answer-less_unless}
 use Rattle.sparse_cols.specs.Sparse.{IsRising}
 use Rattle.factor_model.specs.Vectors.{or_zero, entry, other_entry}
-
-pub answer-bind : {A B : Type 0} (c : Worked A) (f : A → Worked B) → (bind c f).answer ≡ (f c.answer).answer
-unfolding bind
-answer-bind c f = refl
-
-pub answer-done : {A : Type 0} (a : A) → (done a).answer ≡ a
-unfolding done
-answer-done a = refl
-
-pub answer-work : (a : ℚ) → (work a).answer ≡ a
-unfolding work
-answer-work a = refl
-
-apart_from : (a : ℚ) → eq_ℚ a zero_ℚ ≡ false → a ≢ zero_ℚ
-apart_from a e h = let yes : eq_ℚ a zero_ℚ ≡ true = subst (λ z. eq_ℚ z zero_ℚ ≡ true) (sym h) ((eq_ℚ-decides zero_ℚ zero_ℚ).1 refl) in cc
-
-pub answer-less : (x a b : ℚ) → (less x a b).answer ≡ x -ℚ a *ℚ b
-answer-less x a b = by_left (eq_ℚ a zero_ℚ) refl
-  where
-    none : (a ≡ zero_ℚ) ⊎ (b ≡ zero_ℚ) → (less x a b).answer ≡ x
-    none h = ap (λ (c : Worked ℚ). c.answer) (less-none x a b h) ∙ answer-done x
-
-    by_right : (t : Bool) → eq_ℚ b zero_ℚ ≡ t → a ≢ zero_ℚ → (less x a b).answer ≡ x -ℚ a *ℚ b
-    by_right true e other =
-        none (inr ((eq_ℚ-decides b zero_ℚ).0 e)) ∙ ring_ℚ 3 (λ x a b. a ⊙ b ≗ 𝟘 ⟹ x ≐ x ⊖ a ⊗ b) tt x a b ((eq_ℚ-decides b zero_ℚ).0 e)
-    by_right false e other =
-        ap (λ (c : Worked ℚ). c.answer) (less-some x a b other (apart_from b e))
-        ∙ answer-bind (work (a *ℚ b)) (λ product. work (x -ℚ product)) ∙ answer-work (x -ℚ (work (a *ℚ b)).answer) ∙ ap (λ p. x -ℚ p) (answer-work (a *ℚ b))
-
-    by_left : (t : Bool) → eq_ℚ a zero_ℚ ≡ t → (less x a b).answer ≡ x -ℚ a *ℚ b
-    by_left true e =
-        none (inl ((eq_ℚ-decides a zero_ℚ).0 e)) ∙ ring_ℚ 3 (λ x a b. b ⊙ a ≗ 𝟘 ⟹ x ≐ x ⊖ a ⊗ b) tt x a b ((eq_ℚ-decides a zero_ℚ).0 e)
-    by_left false e = by_right (eq_ℚ b zero_ℚ) refl (apart_from a e)
-
-pub answer-less_unless : (out : Bool) (x a b : ℚ) → (less_unless out x a b).answer ≡ x -ℚ cond out zero_ℚ a *ℚ b
-answer-less_unless true x a b =
-    ap (λ (c : Worked ℚ). c.answer) (less_unless-out true x a b refl) ∙ answer-done x ∙ ring_ℚ 2 (λ x b. x ≐ x ⊖ 𝟘 ⊗ b) tt x b
-answer-less_unless false x a b = ap (λ (c : Worked ℚ). c.answer) (less_unless-in false x a b refl) ∙ answer-less x a b
 
 -- ---- entries of rising pairs
 

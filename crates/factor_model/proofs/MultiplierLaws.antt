@@ -1,6 +1,7 @@
 -- The multipliers of an update take the row to 0 in each column behind.
 use Rattle.std.proofs.Common.{◌≡◌, ◌≢◌, ℕ, ◌<◌, List, [], ◌∷◌, ◌++◌, inl, inr, ⊎_elim, refl, sym, ◌∙◌, ap, ap₂, subst}
 use Rattle.rational.specs.Rational.{ℚ, zero_ℚ, ◌+ℚ◌, ◌-ℚ◌, ◌*ℚ◌, ◌/ℚ◌}
+use Rattle.rational.proofs.AnswerLaws.{answer-bind, answer-done}
 use Rattle.rational.proofs.RationalRing.{ring_ℚ}
 use Rattle.rational.proofs.Ring.{◌≐◌, ◌⊙◌≗◌⟹◌, ◌⊕◌, ◌⊖◌, ◌⊗◌, ⊝◌, 𝟘, 𝟙}
 use Rattle.rational.specs.Sum.{sum_ℚ}
@@ -11,7 +12,7 @@ use Rattle.rational.proofs.SumLaws.{sum-none, sum-change}
 use Rattle.factor_model.specs.Vectors.{entry, stored_pair}
 use Rattle.factor_model.specs.Upper.{Triangle, IsUpper, ComesBefore, In, Pairwise, row_of, cell, diagonal}
 use Rattle.factor_model.specs.Update.{less_multiples, multiplier, multipliers, Lacks, AreApart}
-use Rattle.factor_model.proofs.LineLaws.{answer-bind, answer-done, entry-here, entry-there}
+use Rattle.factor_model.proofs.LineLaws.{entry-here, entry-there}
 use Rattle.factor_model.proofs.UpperLaws.{answer-quotient}
 use Rattle.factor_model.proofs.SparseLaws.{stored_cases}
 

@@ -3,6 +3,8 @@ use Rattle.std.proofs.Common.{◌≡◌, ◌≢◌, ℕ, ◌+◌, ◌<◌, ◌�
 use Rattle.std.proofs.lemmas.Bool.{eq-eqb, ne_eqb, cond-true, cond-false}
 use Rattle.rational.specs.Rational.{ℚ, zero_ℚ, ◌-ℚ◌, ◌*ℚ◌, ◌/ℚ◌, inverse, eq_ℚ}
 use Rattle.rational.specs.Worked.{Worked, done, bind, less, quotient}
+use Rattle.rational.proofs.AnswerLaws.{answer-bind, answer-done}
+use Rattle.rational.proofs.Settling.{less_answer}
 use Rattle.rational.proofs.FieldLaws.{/ℚ_is}
 use Rattle.rational.proofs.OrderLaws.{eq_ℚ-decides, eq_ℚ-other}
 use Rattle.rational.proofs.RationalRing.{ring_ℚ}
@@ -11,7 +13,7 @@ use Rattle.sparse_cols.specs.Sparse.{IsRising}
 use Rattle.factor_model.specs.Vectors.{entry}
 use Rattle.factor_model.specs.Upper.{In, Pairwise}
 use Rattle.factor_model.specs.Factoring.{with_entry, less_row, eliminated_by, Eliminated, eliminate}
-use Rattle.factor_model.proofs.LineLaws.{answer-bind, answer-done, answer-less, entry-here, entry-there}
+use Rattle.factor_model.proofs.LineLaws.{entry-here, entry-there}
 use Rattle.factor_model.proofs.UpperLaws.{answer-quotient}
 
 -- ---- the matrix with another entry
@@ -57,7 +59,7 @@ module _ (r i : ℕ) (k : ℚ) where
       ∙ ⊎_elim
       (λ (e : q ≡ p).
       subst (λ s. (less_row (with_entry a i p x) r i k ps).answer i s ≡ a i s -ℚ k *ℚ a r s) (sym e)
-      (row-without ps (with_entry a i p x) p (λ later. distinct.0 p later refl) ∙ with_entry-here a i p x ∙ answer-less (a i p) k (a r p)))
+      (row-without ps (with_entry a i p x) p (λ later. distinct.0 p later refl) ∙ with_entry-here a i p x ∙ less_answer (a i p) k (a r p)))
       (λ (later : In q ps).
       row-within apart ps (with_entry a i p x) q distinct.1 later
       ∙ ap₂ (λ s t. s -ℚ k *ℚ t) (with_entry-position a i p x i q (λ e. distinct.0 q later (sym e))) (with_entry-row a i p x r q (λ e. apart (sym e))))

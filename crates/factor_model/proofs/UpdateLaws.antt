@@ -4,6 +4,7 @@ use Rattle.std.proofs.lemmas.Bool.{cases_eq, eq-eqb, ne_eqb, cond-true, cond-fal
 use Rattle.std.proofs.lemmas.List.{length-set, get_or-set_same, get_or-set_other}
 use Rattle.std.proofs.lemmas.List.Elements.{All-push}
 use Rattle.rational.specs.Rational.{ℚ, zero_ℚ, ◌-ℚ◌, ◌*ℚ◌}
+use Rattle.rational.proofs.AnswerLaws.{answer-bind, answer-done}
 use Rattle.rational.proofs.RationalRing.{ring_ℚ}
 use Rattle.rational.proofs.Ring.{◌≐◌, ◌⊖◌, ◌⊗◌, 𝟘}
 use Rattle.rational.specs.Sum.{at, sum_ℚ}
@@ -21,7 +22,7 @@ use Rattle.factor_model.specs.Upper.{Triangle, IsUpper, ComesBefore, In, Pairwis
 use Rattle.factor_model.specs.Represents.{Represents, made}
 use Rattle.factor_model.specs.Edits.{clear_row}
 use Rattle.factor_model.specs.Update.{behind, less_multiples, multipliers, RowEta, update, row_operation, new_column, updated_upper, with_column, Lacks, AreApart}
-use Rattle.factor_model.proofs.LineLaws.{answer-bind, answer-done, answer-gather, other-skip, other-other}
+use Rattle.factor_model.proofs.LineLaws.{answer-gather, other-skip, other-other}
 use Rattle.factor_model.proofs.EtaLaws.{answer-apply, apply-append, length-apply}
 use Rattle.factor_model.proofs.UpperShape.{row_below, order_below, in_order}
 use Rattle.factor_model.proofs.EditLaws.{cleared-upper, cell-cleared_row, cell-cleared_kept, replaced-upper, cell-replaced_own, cell-replaced_other}

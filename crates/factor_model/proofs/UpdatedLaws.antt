@@ -4,13 +4,13 @@ use Rattle.rational.specs.Rational.{ℚ, zero_ℚ, ◌*ℚ◌}
 use Rattle.rational.specs.Matrix.{matrix_times}
 use Rattle.rational.specs.Sum.{at, sum_ℚ}
 use Rattle.rational.specs.Worked.{done}
+use Rattle.rational.proofs.AnswerLaws.{answer-bind, answer-done}
 use Rattle.rational.proofs.VectorLaws.{get-map-upto, length-map-upto}
 use Rattle.factor_model.specs.Vectors.{vector}
 use Rattle.factor_model.specs.Eta.{apply}
 use Rattle.factor_model.specs.Upper.{cell, solve}
 use Rattle.factor_model.specs.Update.{HasPivot, update, with_column}
 use Rattle.factor_model.specs.Factors.{Factors, AreFactors, updated, with_update}
-use Rattle.factor_model.proofs.LineLaws.{answer-bind, answer-done}
 use Rattle.factor_model.proofs.EtaLaws.{length-apply}
 use Rattle.factor_model.proofs.UpperLaws.{solves_row}
 use Rattle.factor_model.proofs.UpdateLaws.{pivot-nonzero, update-represents}

@@ -6,6 +6,7 @@ use Rattle.std.proofs.lemmas.List.Sorted.{IsPermutation-trans, IsPermutation-rev
 use Rattle.std.proofs.lemmas.List.FromFn.{get_or-map-range_with_len}
 use Rattle.std.proofs.lemmas.Bool.{cases_eq}
 use Rattle.rational.specs.Rational.{ℚ, zero_ℚ, ◌+ℚ◌, ◌-ℚ◌, ◌*ℚ◌, ◌/ℚ◌}
+use Rattle.rational.proofs.AnswerLaws.{answer-bind, answer-done, answer-work}
 use Rattle.rational.proofs.RationalRing.{ring_ℚ}
 use Rattle.rational.proofs.Ring.{◌≐◌, ◌⊙◌≗◌⟹◌, ◌⊕◌, ◌⊖◌, ◌⊗◌, 𝟘, 𝟙}
 use Rattle.rational.specs.Sum.{at, sum_ℚ}
@@ -17,7 +18,7 @@ use Rattle.rational.proofs.SumLaws.{sum-cong, sum-change}
 use Rattle.sparse_cols.specs.Sparse.{IsRising}
 use Rattle.factor_model.specs.Vectors.{other_entry}
 use Rattle.factor_model.specs.Upper.{Triangle, IsUpper, ComesBefore, In, Pairwise, column, row_of, cell, diagonal, place_one, solve_one, solve_rows, by_position, solve, back_item, solve_positions, solve_back, Solves, SolvesBack}
-use Rattle.factor_model.proofs.LineLaws.{answer-bind, answer-done, answer-work, answer-gather, answer-subtract, length-subtract, other-skip, other-other}
+use Rattle.factor_model.proofs.LineLaws.{answer-gather, answer-subtract, length-subtract, other-skip, other-other}
 use Rattle.factor_model.proofs.Orders.{in_reverse, sum_over, sum_over-cons, sum_over-none, sum_over-cong, sum_whole, whole_below, Pairwise-reverse}
 use Rattle.factor_model.proofs.UpperShape.{row_below, position_of_row, order_below, in_order}
 

@@ -12,13 +12,10 @@ use Rattle.lp_run.specs.Solution.{ColumnOf, Prices, basis_entry}
 use Rattle.lp_run.specs.State.{State, after, basic}
 use Rattle.bland_ratio.specs.Pricing.{kind_entries}
 use Rattle.bland_ratio.proofs.Priced.{coefficient_entry}
-use Rattle.factor_model.specs.declared.Op.{Op}
-use Rattle.factor_model.specs.Eta.{apply}
 use Rattle.factor_model.specs.Factors.{AreFactors, Factors, IsRowSolution, IsSolution}
-use Rattle.factor_model.specs.Represents.{Represents}
 use Rattle.factor_model.specs.Update.{with_column}
-use Rattle.factor_model.specs.Upper.{Triangle}
 use Rattle.factor_model.specs.Vectors.{entry, or_zero, vector}
+use Rattle.factor_model.proofs.FactoredSame.{represents-same}
 use Rattle.sparse_cols.specs.Sparse.{value_at}
 use Rattle.factor_run.specs.Built.{entering_column}
 use Rattle.factor_run.specs.Calm.{basic_costs}
@@ -28,15 +25,6 @@ pub same_vector : (n : ℕ) (f g : ℕ → ℚ) → ((i : ℕ) → i < n → f i
 same_vector n f g same =
     same_vectors (vector n f) (vector n g) n (length-map-upto f n) (length-map-upto g n)
     (λ i b. get-map-upto f zero_ℚ n i b ∙ same i b ∙ sym (get-map-upto g zero_ℚ n i b))
-
--- factors of a matrix are factors of one with the same entries
-pub represents-same : (n : ℕ) (ops : List Op) (u : Triangle) (b c : ℕ → ℕ → ℚ) → ((i p : ℕ) → i < n → p < n → b i p ≡ c i p) → Represents n ops u b → Represents n ops u c
-represents-same n ops u b c same h = record {
-  within = h.within;
-  upper = h.upper;
-  columns = λ i p i_lt p_lt.
-      ap (λ v. at (apply v ops).answer i) (sym (same_vector n (λ k. b k p) (λ k. c k p) (λ k k_lt. same k p k_lt p_lt))) ∙ h.columns i p i_lt p_lt;
-}
 
 -- ── the columns of the equations ──
 
@@ -80,5 +68,5 @@ module _ (inst : Instance) where
     pub swapped_factors : (q p : ℕ) (end : Side) → length s.basis ≡ row_count inst → p < row_count inst → (g : Factors)
         → AreFactors (row_count inst) g (with_column (basis_entry inst s) p (entry (kind_entries inst (column_kind inst q)))) → AreFactors (row_count inst) g (basis_entry inst (after s (Swap q p end)))
     swapped_factors q p end positions within g h =
-        represents-same (row_count inst) g.etas g.upper (with_column (basis_entry inst s) p (entry (kind_entries inst (column_kind inst q)))) (basis_entry inst (after s (Swap q p end)))
-        (λ i k i_lt k_lt. exchanged_entry q p end positions within i k) h
+        represents-same (row_count inst) (with_column (basis_entry inst s) p (entry (kind_entries inst (column_kind inst q)))) (basis_entry inst (after s (Swap q p end)))
+        (λ i k i_lt k_lt. exchanged_entry q p end positions within i k) g.etas g.upper h

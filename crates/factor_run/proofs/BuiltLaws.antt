@@ -7,6 +7,7 @@ use Rattle.lp_model.specs.declared.Entry.TheVariants.{Flip, Swap, Turn}
 use Rattle.lp_model.specs.declared.Side.{Side}
 use Rattle.rational.specs.Sum.{at}
 use Rattle.rational.specs.Worked.{Worked, done, bind, settle}
+use Rattle.rational.proofs.AnswerLaws.{answer-bind, answer-done}
 use Rattle.rational.proofs.Settling.{settle-answer}
 use Rattle.rational.proofs.MatrixLaws.{same_columns}
 use Rattle.lp_run.specs.Instance.{Instance, coefficient, row_count}
@@ -23,7 +24,6 @@ use Rattle.factor_model.specs.Upper.{solve}
 use Rattle.factor_model.specs.Update.{HasPivot, with_column}
 use Rattle.factor_model.specs.Factoring.{factored, fresh}
 use Rattle.factor_model.specs.Factors.{Factors, AreFactors, most_updates, updated}
-use Rattle.factor_model.proofs.LineLaws.{answer-bind, answer-done}
 use Rattle.factor_model.proofs.FactoredLaws.{factored-regular, factored-represents}
 use Rattle.factor_model.proofs.FactoredSame.{represents-same}
 use Rattle.factor_model.proofs.UpdatedLaws.{updated-count, updated-represents, spike-solves, pivot-of}

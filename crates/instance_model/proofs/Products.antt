@@ -1,15 +1,15 @@
 -- The start sums take at most one product for each stored entry.
-use Rattle.std.proofs.Common.{◌≡◌, ℕ, zero, suc, ◌+◌, ◌<◌, ◌≤◌, List, [], ◌∷◌, Bool, true, false, cond, eqb, drop, get_or, IsTrue, ◌↔◌, length, map, refl, sym, ◌∙◌, ap, arith}
+use Rattle.std.proofs.Common.{◌≡◌, ℕ, zero, suc, ◌+◌, ◌<◌, ◌≤◌, List, [], ◌∷◌, Bool, true, false, cond, eqb, drop, get_or, length, map, refl, sym, ◌∙◌, ap, arith}
 use Rattle.std.specs.List.{filter, range_with_len, sum, sum_by}
 use Rattle.std.proofs.lemmas.List.{take_all}
 use Rattle.std.proofs.lemmas.List.Sums.{sum-map, sum_by-cons, sum_by-drop_more}
 use Rattle.std.proofs.lemmas.List.FromFn.{get_or-range_with_len, length-range_with_len}
 use Rattle.std.proofs.lemmas.Bool.{eqb-true}
-use Rattle.rational.specs.Rational.{ℚ, eq_ℚ, zero_ℚ}
+use Rattle.rational.specs.Rational.{ℚ, one_unless_zero}
 use Rattle.rational.specs.Sparse.{entry_at, upto}
-use Rattle.rational.proofs.OrderLaws.{eq_ℚ-decides, eq_ℚ-tested}
+use Rattle.rational.proofs.OrderLaws.{one_unless_zero-le, one_unless_zero-zero}
 use Rattle.lp_run.specs.Instance.{Instance, Structural, no_structural, structural, structural_count}
-use Rattle.instance_model.specs.Inner.Starts.{off_zero, one_product, row_products, starts_off}
+use Rattle.instance_model.specs.Inner.Starts.{off_zero, row_products, starts_off}
 use Rattle.instance_model.proofs.Lists.{map_at}
 
 -- ── sums ──
@@ -79,26 +79,18 @@ at_most_one k a (suc n) = by (at_most_one k (a + 1) n) (eqb k a) refl
 
 -- ── the products of a structural ──
 
--- an entry that is tested not to be 0 takes one
-pub one_where : (a : ℚ) (r : Bool) → IsTrue r ↔ (a ≡ zero_ℚ) → r ≡ false → one_product a ≡ 1
-one_where a r tested is = ap (λ b. cond b 0 1) (eq_ℚ-tested r a tested ∙ is)
-
 abbrev in_row : List (ℕ × ℚ) → ℕ → ℕ
-in_row pairs i = one_product (entry_at pairs i)
+in_row pairs i = one_unless_zero (entry_at pairs i)
 
 no_entry : (i : ℕ) → in_row [] i ≡ 0
-no_entry i = ap (λ b. cond b 0 1) ((eq_ℚ-decides zero_ℚ zero_ℚ).1 refl)
+no_entry i = one_unless_zero-zero
 
 of_pair : (k : ℕ) (v : ℚ) (pairs : List (ℕ × ℚ)) (i : ℕ) → in_row ((k, v) ∷ pairs) i ≤ here k i + in_row pairs i
 unfolding one
 of_pair k v pairs i = by (eqb k i)
   where
-    few : (b : Bool) → cond b 0 1 ≤ 1
-    few true = omega arith
-    few false = omega arith
-
-    by : (b : Bool) → one_product (cond b v (entry_at pairs i)) ≤ one b + in_row pairs i
-    by true = let most : one_product v ≤ 1 = few (eq_ℚ v zero_ℚ) in omega (arith, most)
+    by : (b : Bool) → one_unless_zero (cond b v (entry_at pairs i)) ≤ one b + in_row pairs i
+    by true = omega (arith, one_unless_zero-le v)
     by false = omega arith
 
 -- in so many rows a structural takes at most one product for each of its entries
@@ -118,10 +110,10 @@ module _ (inst : Instance) where
 
   -- after a product the work done and the products left are as much
   pub step_costs : (i : ℕ) (js : List ℕ) (k j : ℕ) (a : ℚ) → k < length js → j ≡ get_or js k 0 → a ≡ entry_at (structural inst j).entries i
-      → (before after all : ℕ) → after ≤ before + one_product a → before + taken_by (drop k js) i ≤ all → after + taken_by (drop (k + 1) js) i ≤ all
+      → (before after all : ℕ) → after ≤ before + one_unless_zero a → before + taken_by (drop k js) i ≤ all → after + taken_by (drop (k + 1) js) i ≤ all
   step_costs i js k j a within is entry before after all spent within_all =
       let f : ℕ → ℕ = λ j. in_row (structural inst j).entries i in
-      let now : one_product a ≡ f (get_or js k 0) = ap one_product entry ∙ ap f is in
+      let now : one_unless_zero a ≡ f (get_or js k 0) = ap one_unless_zero entry ∙ ap f is in
       let more : taken_by (drop k js) i ≡ f (get_or js k 0) + taken_by (drop (k + 1) js) i = sum_by-drop_more f js k 0 within in
       omega (arith, spent, within_all, now, more)
 

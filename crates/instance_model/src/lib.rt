@@ -11,7 +11,9 @@
 //! logical's bounds, and the end that the range gives. Where one of them does not fit the width of the arithmetic, it
 //! answers the place of the first, and the count of unfit results rises by one. `bounds`, `cost` and `entries` are those
 //! of the definitions, in each phase. [`Instance::start`] is the start of the method (`start_of`), and [`State::after`]
-//! takes in an entry (`after`) without memory. [`basis_of`] is the basis that a state tells (`specs/Basis.antt`). Each call that takes memory answers [`Memory`] for want of it.
+//! takes in an entry (`after`) without memory. [`rest_of`] is the value at which a column rests in a state (`rest`).
+//! [`basis_of`] is the basis that a state tells (`specs/Basis.antt`). Each call that takes memory answers [`Memory`] for
+//! want of it.
 //!
 //! **Method.** A structural that starts at 0 takes nothing from any right side, so the making lists the others once, and
 //! looks up their entry in each row by binary search: a look-up for each row and each structural that does not start at 0.
@@ -23,6 +25,7 @@ mod basis;
 mod bounds;
 mod instance;
 mod making;
+mod resting;
 mod start;
 mod start_sums;
 mod state;
@@ -33,5 +36,6 @@ pub use bounds::Bounds;
 pub use instance::Instance;
 pub use making::InstanceFault;
 pub use no_memory::Memory;
+pub use resting::rest_of;
 pub use state::State;
 pub use statuses::Statuses;

@@ -3,19 +3,17 @@
 ghost use Rattle.std.specs.Prelude.{◌≡◌, ◌+◌, ◌<◌, ◌≤◌, ◌^◌, length, IfOk, Some};
 ghost use Rattle.deck_model.specs.End.{finite_end};
 ghost use Rattle.exact_frac.specs.Count.{unfit_after};
-ghost use Rattle.exact_frac.specs.Settles.{Settles};
 ghost use Rattle.lp_model.specs.declared.Kind.TheVariants as kind;
 ghost use Rattle.lp_model.specs.Deck.{column as column_at, logical_bounds as logical_bounds_at, logical_bounds_of, row as row_at};
 ghost use Rattle.lp_run.specs.Instance.{equations_of, range_sum as range_sum_of, residual as residual_of, structural_count};
 ghost use Rattle.lp_run.specs.Listing.{listed_at, place, start_sums, Judges};
 ghost use Rattle.rational.specs.Sparse.{upto};
 ghost use Rattle.rational.specs.Sum.{at};
-ghost use Rattle.rational.specs.Worked.{less};
-ghost use Rattle.instance_model.specs.Inner.Starts.{excess_listing, off_zero, one_product, range_shift as shift_of, row_place as place_of_row, row_products, row_start as row_start_of, side_past, takings};
+ghost use Rattle.instance_model.specs.Inner.Starts.{excess_listing, off_zero, range_shift as shift_of, row_place as place_of_row, row_products, row_start as row_start_of, side_past, takings};
 
 use crate::bounds::Bounds;
 use deck_model::{Deck, End, MAX_COLUMNS};
-use exact_frac::{Arith, Frac, Unfit};
+use exact_frac::{Arith, Frac};
 use lp_model::{Kind, Place, RowKind, Side};
 use sparse_steps::{entry, less_product};
 use std::alloc::{AllocError, Global};
@@ -73,25 +71,12 @@ fn residual<A: Arith>(
     for k in 0..moved.len() {
         let j = moved[k];
         let value = column_bounds(deck, j).start_value();
-        match less_entry(rest, entry(deck.column(j), row), value, arith) {
+        match less_product(rest, entry(deck.column(j), row), value, arith) {
             Ok(left) => rest = left,
             Err(_) => return Err(product_place(row, j)),
         }
     }
     Ok(rest)
-}
-
-// `rest` less the product of an entry and a start. An entry of 0 takes nothing, and costs no product.
-fn less_entry<A: Arith>(rest: Frac, entry: Frac, start: Frac, arith: &mut A) -> Result<Frac, Unfit>
-    ensures settled { Settles (A.width arith.old) (less rest entry start) result }
-    ensures width { A.width arith.new ≡ A.width arith.old }
-    ensures unfit { A.unfit_count arith.new ≡ unfit_after (A.unfit_count arith.old) result }
-    ensures work { A.work_count arith.new ≤ A.work_count arith.old + one_product entry }
-{
-    if entry.is_zero() {
-        return Ok(rest);
-    }
-    less_product(rest, entry, start, arith)
 }
 
 /// The columns that do not start at 0.

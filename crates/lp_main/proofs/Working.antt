@@ -1,5 +1,5 @@
 -- From what the solver works to what a call of the program does.
-use Rattle.std.proofs.Common.{◌≡◌, ◌≢◌, ℕ, ◌+◌, ◌≤◌, ◌⊎◌, List, Option, Some, None, Result, Ok, Err, refl, sym, ◌∙◌, ap, subst, inl, inr, arith}
+use Rattle.std.proofs.Common.{◌≡◌, ◌≢◌, ℕ, ◌+◌, ◌≤◌, List, Option, Some, None, Result, Ok, Err, refl, sym, ◌∙◌, subst, arith}
 use Rattle.std.specs.Prelude.{IfOk, IfSome, IsErrAnd}
 use Rattle.lp_model.specs.declared.Place.{Place}
 use Rattle.lp_model.specs.Deck.{Deck}
@@ -11,7 +11,7 @@ use Rattle.factor_run.specs.Calm.{IsCalm}
 use Rattle.two_phase.specs.declared.board.Closed.{Closed}
 use Rattle.deck_model.specs.Outcome.{outcome_of}
 use Rattle.crew.specs.Answers.{HasClosed}
-use Rattle.mps_model.specs.DeckOf.{IsDeckOf, is_deck}
+use Rattle.mps_model.specs.DeckOf.{is_deck}
 use Rattle.deck_tools.specs.Transport.{transport}
 use Rattle.lp_main.specs.declared.refusal.Refusal.{Refusal}
 use Rattle.lp_main.specs.declared.refusal.Refusal.TheVariants as refusal

@@ -3,7 +3,7 @@ use Rattle.std.specs.Prelude.{ℕ, ◌+◌, List, [], ◌∷◌, ◌++◌, Optio
 use Rattle.lp_model.specs.declared.RowKind.{RowKind}
 use Rattle.lp_model.specs.declared.Sense.{Sense}
 use Rattle.lp_model.specs.declared.Sense.TheVariants.{Min}
-use Rattle.rational.specs.Rational.{ℚ, zero_ℚ, eq_ℚ}
+use Rattle.rational.specs.Rational.{ℚ, zero_ℚ, eq_ℚ, one_unless_zero}
 use Rattle.lp_model.specs.Deck.{Column, Deck, Interval, Row, no_column, no_row, row, column}
 
 -- the same bytes
@@ -79,4 +79,4 @@ has_entry ((k, v) ∷ pairs) i = k == i || has_entry pairs i
 
 -- how many entries and costs are not 0
 abbrev pub entry_count : Deck → ℕ
-entry_count d = sum_by (λ c. length c.entries + (if eq_ℚ c.cost zero_ℚ then 0 else 1)) d.columns
+entry_count d = sum_by (λ c. length c.entries + one_unless_zero c.cost) d.columns

@@ -1,4 +1,5 @@
 pub mod LinesLemmas
+pub mod Pieces
 pub mod SameBytes
 mod WorkedCards
 mod WorkedFreeCards

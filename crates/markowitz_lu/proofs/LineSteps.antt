@@ -4,13 +4,14 @@ use Rattle.std.specs.Result.{IfErr, IsErrAnd}
 use Rattle.std.proofs.lemmas.List.{at_drop_more, at_drop_all}
 use Rattle.rational.specs.Rational.{ℚ, ◌/ℚ◌}
 use Rattle.rational.specs.Width.{FitsWidth}
+use Rattle.rational.proofs.Loops.{step_settles}
 use Rattle.rational.proofs.Settling.{settle-work_none}
 use Rattle.exact_frac.proofs.Working.{settles-exact}
 use Rattle.rational.specs.Worked.{Worked, done, bind, less, quotient, settle}
 use Rattle.sparse_cols.specs.Sparse.{insert_pair, value_at}
 use Rattle.std.proofs.lemmas.Bool.{cases_eq, eq-eqb, ne_eqb, cond-true, cond-false}
 use Rattle.sparse_cols.specs.Work.{value_in}
-use Rattle.factor_model.specs.Factoring.{with_entry}
+use Rattle.factor_model.specs.Factoring.{Eliminated, with_entry}
 use Rattle.factor_model.specs.Update.{Lacks}
 use Rattle.cross_links.specs.Matrix.{Matrix}
 use Rattle.markowitz_lu.specs.declared.fault.LuFault.{LuFault}
@@ -75,6 +76,18 @@ module _ (u : ℚ) (row column : List (ℕ × ℚ)) (j : ℕ) where
   pub lines_parts : (pair : ℕ × ℚ) (f : ℕ → ℕ → ℚ) (ks : List (ℕ × ℚ)) → j < length column → pair ≡ get_or column j pair
       → less_lines u row f ks (drop j column) ≡ bind (quotient pair.1 u) (λ k. bind (less_line pair.0 k f row) (λ b. less_lines u row b (insert_pair pair.0 k ks) (drop (j + 1) column)))
   lines_parts pair f ks lt found = ap (less_lines u row f ks) (drop_next column j pair lt found)
+
+  -- what follows the line of a pair, by its multiplier
+  abbrev pub lines_left : ℕ × ℚ → List (ℕ × ℚ) → ℚ → (ℕ → ℕ → ℚ) → Worked Eliminated
+  lines_left pair ks k b = less_lines u row b (insert_pair pair.0 k ks) (drop (j + 1) column)
+
+  -- once the multiplier of the next pair is worked, its line is
+  pub line_next : (pair : ℕ × ℚ) (f : ℕ → ℕ → ℚ) (ks : List (ℕ × ℚ)) → j < length column → pair ≡ get_or column j pair → (v w : ℕ) → v ≡ w → (k : ℚ)
+      → (k ≡ pair.1 /ℚ u) × FitsWidth v (pair.1 /ℚ u) → (o : Option Eliminated) → settle w (less_lines u row f ks (drop j column)) ≡ o
+      → settle w (bind (less_line pair.0 k f row) (lines_left pair ks k)) ≡ o
+  line_next pair f ks lt found v w width k exact o left =
+      step_settles v w width (quotient pair.1 u) (λ x. bind (less_line pair.0 x f row) (lines_left pair ks x)) _ (lines_parts pair f ks lt found) o left k
+      (quotient_settles v pair.1 u k exact)
 
   pub lines_end : (f : ℕ → ℕ → ℚ) (ks : List (ℕ × ℚ)) → length column ≤ j → less_lines u row f ks (drop j column) ≡ done (f, ks)
   lines_end f ks le = at_drop_all (less_lines u row f ks) column j le

@@ -2,6 +2,8 @@
 use Rattle.std.proofs.Common.{◌≡◌, ◌≢◌, ℕ, eqb, List, [], ◌∷◌, Option, Some, None, ⊎_elim, refl, sym, ap, ap₂, subst, ◌∙◌, arith}
 use Rattle.std.proofs.lemmas.Bool.{cases_eq, eq-eqb, ne_eqb, cond-true, cond-false}
 use Rattle.rational.specs.Rational.{ℚ, zero_ℚ, ◌-ℚ◌, ◌*ℚ◌, ◌/ℚ◌}
+use Rattle.rational.proofs.AnswerLaws.{answer-bind, answer-done}
+use Rattle.rational.proofs.Settling.{less_answer}
 use Rattle.rational.proofs.RationalRing.{ring_ℚ}
 use Rattle.rational.proofs.Ring.{◌≐◌, ◌⊖◌, ◌⊗◌, 𝟘}
 use Rattle.rational.specs.Worked.{bind, less, quotient}
@@ -10,7 +12,7 @@ use Rattle.sparse_cols.proofs.Pairs.{IsRising-insert_pair}
 use Rattle.factor_model.specs.Vectors.{entry, or_zero}
 use Rattle.factor_model.specs.Update.{Lacks, AreApart}
 use Rattle.factor_model.specs.Factoring.{Eliminated, with_entry}
-use Rattle.factor_model.proofs.LineLaws.{answer-bind, answer-done, answer-less, entry-here, entry-there}
+use Rattle.factor_model.proofs.LineLaws.{entry-here, entry-there}
 use Rattle.factor_model.proofs.UpperLaws.{answer-quotient}
 use Rattle.factor_model.proofs.PivotLaws.{with_entry-here, with_entry-row, with_entry-position}
 use Rattle.markowitz_lu.specs.Inner.Lines.{less_line, less_lines}
@@ -50,7 +52,7 @@ module _ (i : ℕ) (k : ℚ) where
       ∙ ⊎_elim
       (λ (e : q ≡ p).
       subst (λ (s : ℕ). b i s -ℚ k *ℚ entry row s ≡ a i s -ℚ k *ℚ entry ((p, u) ∷ row) s) (sym e)
-      (ap₂ (λ y z. y -ℚ k *ℚ z) (with_entry-here a i p x ∙ answer-less (a i p) k u) (ap or_zero (value-lacks p row apart.1))
+      (ap₂ (λ y z. y -ℚ k *ℚ z) (with_entry-here a i p x ∙ less_answer (a i p) k u) (ap or_zero (value-lacks p row apart.1))
       ∙ ring_ℚ 3 (λ y k u. y ⊖ k ⊗ u ⊖ k ⊗ 𝟘 ≐ y ⊖ k ⊗ u) tt (a i p) k u
       ∙ ap (λ z. a i p -ℚ k *ℚ z) (sym (entry-here p u row))))
       (λ (ne : q ≢ p). ap₂ (λ y z. y -ℚ k *ℚ z) (with_entry-position a i p x i q ne) (sym (entry-there p q u row ne)))

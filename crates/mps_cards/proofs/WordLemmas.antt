@@ -1,13 +1,11 @@
 -- The words of a text, one after the other.
-use Rattle.std.proofs.Common.{◌≡◌, ◌≢◌, ℕ, zero, suc, ◌<◌, ◌≤◌, ◌-◌, Bool, true, false, cond, List, [], ◌∷◌, take, drop, length, filter, nat_lt, slice_index, refl, sym, ap, ◌∙◌, arith}
+use Rattle.std.proofs.Common.{◌≡◌, ◌≢◌, ℕ, zero, suc, ◌<◌, ◌≤◌, ◌-◌, Bool, true, false, cond, List, [], ◌∷◌, take, drop, length, slice_index, refl, sym, ap, ◌∙◌, arith}
 use Rattle.std.proofs.lemmas.List.{length-drop, take_all}
 use Rattle.std.proofs.lemmas.List.Elements.{All-head, All-tail}
-use Rattle.std.proofs.lemmas.Bool.{ne_eqb, eq-eqb, lt-ltb}
+use Rattle.std.proofs.lemmas.Bool.{ne_eqb, eq-eqb}
 use Rattle.std.specs.List.{All}
 use Rattle.lp_text.specs.Cards.{is_blank, onto_first_piece, pieces_of, without_leading, words_of}
-
-abbrev full : List (List ℕ) → List (List ℕ)
-full pieces = filter (λ piece. nat_lt 0 (length piece)) pieces
+use Rattle.lp_text.proofs.Pieces.{full, full-first}
 
 -- ── blanks before a text ──
 
@@ -61,9 +59,6 @@ index-drop : (text : List ℕ) (end : ℕ) → (end < length text → slice_inde
 index-drop text zero blank some = blank some
 index-drop [] (suc end) blank some = absurd (omega arith)
 index-drop (c ∷ text) (suc end) blank some = index-drop text end (λ l. blank (omega arith)) some
-
-full-first : (c : ℕ) (word : List ℕ) (pieces : List (List ℕ)) → full ((c ∷ word) ∷ pieces) ≡ (c ∷ word) ∷ full pieces
-full-first c word pieces = ap (λ b. cond b ((c ∷ word) ∷ full pieces) (full pieces)) (lt-ltb 0 (length (c ∷ word)) (omega arith))
 
 -- the bytes before a blank are the first word
 words-first : (text : List ℕ) (end : ℕ) → end ≤ length text → All (λ x. x ≢ 32) (take end text)

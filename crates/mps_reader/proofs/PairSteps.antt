@@ -1,9 +1,10 @@
 -- A draft after a pair of a row's name and a number.
-use Rattle.std.proofs.Common.{◌≡◌, ℕ, ◌+◌, ◌-◌, ◌<◌, List, [], ◌∷◌, length, get_or, set, position, cond, Option, Some, None, Result, Ok, Err, Bool, true, false, ◌||◌, ◌==◌, nat_lt, refl, sym, ap, ap₂, ◌∙◌, subst, arith, inl, inr, ◌⊎◌}
+use Rattle.std.proofs.Common.{◌≡◌, ℕ, ◌+◌, ◌-◌, ◌<◌, List, ◌∷◌, length, get_or, set, position, cond, Option, Some, None, Result, Ok, Err, Bool, true, false, ◌||◌, nat_lt, refl, sym, ap, ap₂, ◌∙◌, subst, arith, inl, inr, ◌⊎◌}
 use Rattle.std.specs.Result.{IsErrAnd}
-use Rattle.std.proofs.lemmas.Bool.{cases_Bool, eqb-true, or_cases, true≢false}
+use Rattle.std.proofs.lemmas.Bool.{cases_Bool, true≢false}
 use Rattle.std.proofs.lemmas.List.{get_or-set_same, length-set}
 use Rattle.rational.specs.Rational.{ℚ, eq_ℚ, zero_ℚ}
+use Rattle.deck_model.proofs.Sparse.{entry-insert_entry}
 use Rattle.lp_model.specs.Deck.{Column, Deck, Row, column, no_column, no_row, row as row_at}
 use Rattle.lp_model.specs.Edit.{change_column, change_row, find_row, has_entry, insert_entry, same_bytes, with_cost, with_entry}
 use Rattle.lp_text.specs.declared.LineFault.{LineFault}
@@ -117,28 +118,12 @@ column_changed d slot f some gains =
           );
     }
 
-inserted : (i : ℕ) (v : ℚ) (pairs : List (ℕ × ℚ)) (m : ℕ) → has_entry (insert_entry i v pairs) m ≡ true → (i ≡ m) ⊎ (has_entry pairs m ≡ true)
-inserted i v [] m has = elim (or_cases (i == m) false has) [ inl here ↦ inl (eqb-true i m here) | inr none ↦ inr none ]
-inserted i v ((k, u) ∷ pairs) m has = by_test (nat_lt i k) (inserted i v pairs m) has
-  where
-    joined : (a b : Bool) → b ≡ true → (a || b) ≡ true
-    joined true b e = refl
-    joined false b e = e
-
-    by_test : (t : Bool) → (has_entry (insert_entry i v pairs) m ≡ true → (i ≡ m) ⊎ (has_entry pairs m ≡ true))
-        → has_entry (cond t ((i, v) ∷ (k, u) ∷ pairs) ((k, u) ∷ insert_entry i v pairs)) m ≡ true → (i ≡ m) ⊎ (has_entry ((k, u) ∷ pairs) m ≡ true)
-    by_test true later e = elim (or_cases (i == m) (k == m || has_entry pairs m) e) [ inl here ↦ inl (eqb-true i m here) | inr old ↦ inr old ]
-    by_test false later e = elim (or_cases (k == m) (has_entry (insert_entry i v pairs) m) e) [
-      | inl here ↦ inr (ap (λ b. b || has_entry pairs m) here)
-      | inr rest ↦ elim (later rest) [ inl own ↦ inl own | inr old ↦ inr (joined (k == m) (has_entry pairs m) old) ]
-    ]
-
 entry_put : (d : Deck) (i : ℕ) (v : ℚ) → 0 < length d.columns → IsKept d (with_entry d (length d.columns - 1) i v) i
 entry_put d i v some = by_test (eq_ℚ v zero_ℚ)
   where
     by_test : (t : Bool) → IsKept d (cond t d (change_column d (length d.columns - 1) (λ c. record c { entries = insert_entry i v c.entries }))) i
     by_test true = same_deck d i
-    by_test false = column_changed d i (λ c. record c { entries = insert_entry i v c.entries }) some (λ c m has. inserted i v c.entries m has)
+    by_test false = column_changed d i (λ c. record c { entries = insert_entry i v c.entries }) some (λ c m has. entry-insert_entry i v c.entries m has)
 
 -- there is a column where the use is in one
 abbrev HasLast : Use → Deck → Type 0

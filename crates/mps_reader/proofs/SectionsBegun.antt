@@ -1,5 +1,5 @@
 -- A draft with a section begun.
-use Rattle.std.proofs.Common.{◌≡◌, ◌≢◌, ℕ, ◌+◌, ◌-◌, true, false, List, [], ◌∷◌, length, get_or, replicate, Option, Some, None, Ok, Err, if◌then◌else◌, refl, sym, ap, ap₂, ◌∙◌, subst}
+use Rattle.std.proofs.Common.{◌≡◌, ◌≢◌, ℕ, ◌+◌, ◌-◌, Bool, true, false, List, [], ◌∷◌, length, get_or, replicate, Option, Some, None, Ok, Err, if◌then◌else◌, refl, sym, ap, ap₂, ◌∙◌, subst}
 use Rattle.std.proofs.lemmas.List.{length-replicate}
 use Rattle.lp_model.specs.Deck.{Deck, column, no_column}
 use Rattle.lp_model.specs.Edit.{has_entry, with_sense}
@@ -100,42 +100,32 @@ module _ (draft : Draft) (s : DeckSoFar) (h : IsDraftOf draft s) where
         entered = λ before e. absurd (cc e);
       }
 
+  -- a draft with a sense in place of its own, as the deck so far has one in place of its own
+  sense_changed : (awaits : Bool) (own given : Sense) → with_sense s.deck given ≡ deck_with (with_sense draft.deck own) draft.free_rows.keys draft.bounds.items
+      → IsDraftOf (record draft { awaits_sense = awaits; deck = with_sense draft.deck own }) (record s { awaits_sense = awaits; deck = with_sense s.deck given })
+  sense_changed awaits own given deck = record {
+    begun = h.begun;
+    deck = deck;
+    awaits = refl;
+    free_rows = h.free_rows;
+    set = h.set;
+    named = h.named;
+    lowered = h.lowered;
+    bounded = h.bounded;
+    marks = h.marks;
+    objective = h.objective;
+    ordered = h.ordered;
+    early = h.early;
+    blank = h.blank;
+    entered = h.entered;
+  }
+
   -- a sense that is given, or is awaited
-  pub sense_given : (sense : Option Sense) (new : Draft)
+  sense_given : (sense : Option Sense) (new : Draft)
       → new ≡ (elim sense [ None ↦ record draft { awaits_sense = true } | Some v ↦ record draft { awaits_sense = false; deck = with_sense draft.deck v } ])
       → IsDraftOf new (with_sense_given s sense)
-  sense_given None new is = subst (λ d. IsDraftOf d (with_sense_given s None)) (sym is) (record {
-    begun = h.begun;
-    deck = h.deck;
-    awaits = refl;
-    free_rows = h.free_rows;
-    set = h.set;
-    named = h.named;
-    lowered = h.lowered;
-    bounded = h.bounded;
-    marks = h.marks;
-    objective = h.objective;
-    ordered = h.ordered;
-    early = h.early;
-    blank = h.blank;
-    entered = h.entered;
-  })
-  sense_given (Some v) new is = subst (λ d. IsDraftOf d (with_sense_given s (Some v))) (sym is) (record {
-    begun = h.begun;
-    deck = ap (λ d. with_sense d v) h.deck;
-    awaits = refl;
-    free_rows = h.free_rows;
-    set = h.set;
-    named = h.named;
-    lowered = h.lowered;
-    bounded = h.bounded;
-    marks = h.marks;
-    objective = h.objective;
-    ordered = h.ordered;
-    early = h.early;
-    blank = h.blank;
-    entered = h.entered;
-  })
+  sense_given None new is = subst (λ d. IsDraftOf d (with_sense_given s None)) (sym is) (sense_changed true draft.deck.sense s.deck.sense h.deck)
+  sense_given (Some v) new is = subst (λ d. IsDraftOf d (with_sense_given s (Some v))) (sym is) (sense_changed false v v (ap (λ d. with_sense d v) h.deck))
 
   -- the sense, whose section leaves all else
   pub sense_begun : (new : Draft) → new.begun.items ≡ ObjectiveSense ∷ draft.begun.items → (kept : new ≡ record draft { begun = new.begun }) → may_begin ObjectiveSense s.begun ≡ true

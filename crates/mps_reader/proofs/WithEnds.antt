@@ -2,7 +2,7 @@
 use Rattle.std.proofs.Common.{◌≡◌, ℕ, zero, suc, ◌+◌, List, [], ◌∷◌, ◌++◌, length, get_or, set, sum_by, position, cond, Some, None, Bool, true, false, not, nat_lt, refl, sym, ap, ap₂, ◌∙◌}
 use Rattle.std.specs.List.{position_or_len}
 use Rattle.std.proofs.lemmas.List.Sums.{sum_by-cons}
-use Rattle.rational.specs.Rational.{ℚ, eq_ℚ, zero_ℚ}
+use Rattle.rational.specs.Rational.{ℚ, eq_ℚ, one_unless_zero, zero_ℚ}
 use Rattle.lp_model.specs.Deck.{Column, Deck, Interval, no_column, nonnegative}
 use Rattle.lp_model.specs.Edit.{change_column, entry_count, find_column, insert_entry, same_bytes, with_column, with_cost, with_entry}
 use Rattle.mps_reader.specs.declared.bounds.Ends.{Ends}
@@ -69,7 +69,7 @@ module _ (d : Deck) (free_rows : List (List ℕ)) (ends : List Ends) where
   deck_with-find_column name = position-with_ends (λ c. same_bytes c.name name) (λ c b. refl) d.columns ends
 
   pub deck_with-entry_count : entry_count (deck_with d free_rows ends) ≡ entry_count d
-  deck_with-entry_count = sum_by-with_ends (λ c. length c.entries + cond (eq_ℚ c.cost zero_ℚ) 0 1) (λ c b. refl) d.columns ends
+  deck_with-entry_count = sum_by-with_ends (λ c. length c.entries + one_unless_zero c.cost) (λ c b. refl) d.columns ends
 
   -- a new column, whose ends go to the end
   pub deck_with-with_column : (name : List ℕ) (e : Ends) → interval_of e ≡ nonnegative → length ends ≡ length d.columns

@@ -4,6 +4,7 @@ use Rattle.std.specs.List.{range_with_len}
 use Rattle.std.proofs.lemmas.List.{append_assoc, get_or_append_left, get_or-append-add, length-append}
 use Rattle.lp_model.specs.declared.Place.{Place}
 use Rattle.rational.specs.Rational.{ℚ}
+use Rattle.exact_frac.specs.Count.{raised, unfit_after}
 use Rattle.rational.specs.Sparse.{upto}
 use Rattle.lp_run.specs.Listing.{Listed, first_unfit, Judges}
 use Rattle.plain_table.specs.Inner.Rows.{AreWide, row_listing, rows_listing}
@@ -42,6 +43,11 @@ by_place P (suc m) low high (suc i) = by_place (λ k. P (suc k)) m (λ k b. low 
   where
     more : (m k : ℕ) → suc m + k ≡ suc (m + k)
     more m k = omega arith
+
+-- the count of a fresh arithmetic comes to another one
+pub raised_after : {A E : Type 0} (count : ℕ) (r : Result A E) → raised count (unfit_after 0 r) ≡ unfit_after count r
+raised_after count (Ok a) = omega arith
+raised_after count (Err e) = omega arith
 
 -- ── rows from two halves ──
 

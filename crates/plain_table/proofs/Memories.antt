@@ -1,14 +1,15 @@
 -- What holds of a table in memory as it is made.
-use Rattle.std.proofs.Common.{◌≡◌, ◌<◌, ◌^◌, List, Vec, length, sym, ◌∙◌, ap, subst}
+use Rattle.std.proofs.Common.{◌≡◌, ◌<◌, ◌^◌, List, Vec, Global, length, sym, ◌∙◌, ap, subst}
 use Rattle.std.specs.Vec.{with_items}
 use Rattle.std.proofs.lemmas.List.{with_items_is}
+use Rattle.rational.specs.Rational.{ℚ}
 use Rattle.lp_run.specs.Instance.{Instance, IsWellFormed, column_count, row_count}
 use Rattle.lp_run.specs.State.{State, basic, start_of}
 use Rattle.plain_table.specs.declared.table.Table.TheInside.{Inside}
 use Rattle.plain_table.specs.Inner.Makings.{IsAtStart}
 use Rattle.plain_table.specs.Inner.Rows.{AreWide}
 use Rattle.plain_table.specs.Inner.Tables.{IsSound, plain_of}
-use Rattle.plain_table.specs.Plain.{IsSized}
+use Rattle.plain_table.specs.Plain.{IsSized, Plain}
 use Rattle.plain_table.proofs.Makings.{start_sized}
 
 -- what is as long as before stays so
@@ -31,14 +32,16 @@ pub record HasMemory (inst : Instance) (a : Inside) : Type 0 where
   pub support : length a.support.items ≡ column_count inst
   pub alpha : length a.alpha.items ≡ row_count inst
 
-module _ (inst : Instance) (a : Inside) (m : HasMemory inst a) where
-  pub starts : IsWellFormed inst → IsAtStart inst (plain_of a)
-  starts h = record {
-    state = m.state;
-    number = m.number;
-    sized = start_sized inst h (plain_of a) m.state m.rows (λ p b. m.wide p (subst (λ k. p < k) (sym m.rows) b)) m.values m.costs;
-  }
+-- a table of the start's state and size is at the start
+pub starts : (inst : Instance) (t : Plain) → IsWellFormed inst → t.state ≡ start_of inst → t.number ≡ 0 → length t.rows ≡ row_count inst → AreWide (column_count inst) t.rows
+    → length t.values ≡ row_count inst → length t.costs ≡ column_count inst → IsAtStart inst t
+starts inst t h state number rows wide values costs = record {
+  state = state;
+  number = number;
+  sized = start_sized inst h t state rows (λ p b. wide p (subst (λ k. p < k) (sym rows) b)) values costs;
+}
 
+module _ (inst : Instance) (a : Inside) (m : HasMemory inst a) where
   sized_there : IsSized (row_count inst) (column_count inst) (plain_of a) → IsSized (length a.rows.items) (length a.costs.items) (plain_of a)
   sized_there s = subst (λ k. IsSized k (length a.costs.items) (plain_of a)) (sym m.rows) (subst (λ k. IsSized (row_count inst) k (plain_of a)) (sym m.costs) s)
 
@@ -75,6 +78,26 @@ memory_of inst a h s = record {
 }
 
 -- ── the same memory with other numbers ──
+
+-- other rows, basic values, reduced costs and another column, each as long as before
+pub refilled : (inst : Instance) (a : Inside) → HasMemory inst a → (rows : Vec (List ℚ) Global) (values costs alpha : Vec ℚ Global) → AreWide (column_count inst) rows.items
+    → length rows.items ≡ length a.rows.items → length values.items ≡ length a.values.items → length costs.items ≡ length a.costs.items → length alpha.items ≡ length a.alpha.items
+    → HasMemory inst (record a { rows = rows; values = values; costs = costs; alpha = alpha })
+refilled inst a m rows values costs alpha wide rows_many values_many costs_many alpha_many = record {
+  state = m.state;
+  number = m.number;
+  rows = rows_many ∙ m.rows;
+  wide = wide;
+  values = values_many ∙ m.values;
+  costs = costs_many ∙ m.costs;
+  spare_rows = m.spare_rows;
+  spare_wide = m.spare_wide;
+  spare_values = m.spare_values;
+  spare_costs = m.spare_costs;
+  pivot_row = m.pivot_row;
+  support = m.support;
+  alpha = alpha_many ∙ m.alpha;
+}
 
 module _ (inst : Instance) (a : Inside) (sound : IsSound a) (start : IsAtStart inst (plain_of a)) (b : Inside) (m : HasMemory inst b) where
   same_state : b.state ≡ a.state

@@ -1,16 +1,16 @@
 -- How much is worked for the basic values at the start: at most a product for each stored entry.
-use Rattle.std.proofs.Common.{◌≡◌, ◌≢◌, ℕ, suc, ◌+◌, ◌<◌, ◌≤◌, ◌⊎◌, inl, inr, List, [], ◌∷◌, length, take, Bool, true, false, cond, ne_eqb, refl, ap, arith}
+use Rattle.std.proofs.Common.{◌≡◌, ℕ, suc, ◌+◌, ◌<◌, ◌≤◌, ◌⊎◌, inl, inr, List, [], ◌∷◌, length, take, cond, ne_eqb, refl, ap, arith}
 use Rattle.std.proofs.lemmas.Bool.{cases_lt, le-ltb, lt-ltb}
 use Rattle.std.proofs.lemmas.List.Sums.{sum_by-cons, sum_by-take-le, sum_by_more}
 use Rattle.std.specs.List.{sum_by}
 use lib.Dec.{ltb}
-use Rattle.rational.specs.Rational.{ℚ, zero_ℚ, eq_ℚ}
+use Rattle.rational.specs.Rational.{ℚ, one_unless_zero}
 use Rattle.rational.specs.Sparse.{entry_at}
-use Rattle.rational.proofs.OrderLaws.{eq_ℚ-decides}
+use Rattle.rational.proofs.OrderLaws.{one_unless_zero-le, one_unless_zero-zero}
 use Rattle.rational.proofs.SumLaws.{at_or_other}
 use Rattle.lp_run.specs.Instance.{Instance, Structural, no_structural, structural, structural_count}
 use Rattle.bland_ratio.specs.Entries.{stored_entries}
-use Rattle.plain_table.specs.Inner.Starts.{one_unless_zero, row_entries}
+use Rattle.plain_table.specs.Inner.Starts.{row_entries}
 
 -- ── one column ──
 
@@ -50,30 +50,13 @@ all_behind ((k, v) ∷ pairs) =
     let goal : behind 0 k + entries_behind 0 pairs ≡ suc (length pairs) = omega (arith, here, rest) in
     goal
 
-pub at_most_one : (a : ℚ) → one_unless_zero a ≤ 1
-at_most_one a = by (eq_ℚ a zero_ℚ)
-  where
-    by : (t : Bool) → cond t 0 1 ≤ 1
-    by true = omega arith
-    by false = omega arith
-
-none_of_zero : one_unless_zero zero_ℚ ≡ 0
-none_of_zero = ap (λ t. cond t 0 1) ((eq_ℚ-decides zero_ℚ zero_ℚ).1 refl)
-
-pub one_of_other : (a : ℚ) → a ≢ zero_ℚ → one_unless_zero a ≡ 1
-one_of_other a other = by (eq_ℚ a zero_ℚ) refl
-  where
-    by : (t : Bool) → eq_ℚ a zero_ℚ ≡ t → one_unless_zero a ≡ 1
-    by true e = absurd (other ((eq_ℚ-decides a zero_ℚ).0 e))
-    by false e = ap (λ t. cond t 0 1) e
-
 -- the row's entry, and those behind the row
 row_entry : (p : ℕ) (pairs : List (ℕ × ℚ)) → one_unless_zero (entry_at pairs p) + entries_behind (p + 1) pairs ≤ entries_behind p pairs
 unfolding entries_behind
-row_entry p [] = omega (arith, none_of_zero)
+row_entry p [] = omega (arith, one_unless_zero-zero)
 row_entry p ((k, v) ∷ pairs) =
     at_or_other (λ k. one_unless_zero (entry_at ((k, v) ∷ pairs) p) + (behind (p + 1) k + entries_behind (p + 1) pairs) ≤ behind p k + entries_behind p pairs) p k
-    (let one = at_most_one (entry_at ((p, v) ∷ pairs) p) in
+    (let one = one_unless_zero-le (entry_at ((p, v) ∷ pairs) p) in
     let here : behind p p ≡ 1 = behind-yes p p (omega arith) in
     let none : behind (p + 1) p ≡ 0 = behind-no (p + 1) p (omega arith) in
     omega (arith, one, here, none, row_entry p pairs))

@@ -1,5 +1,6 @@
 -- inner: what the parts of a step list and make.
 pub mod Costs
+pub mod Eliminations
 pub mod Lines
 pub mod Makings
 pub mod Pivots

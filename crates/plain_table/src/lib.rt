@@ -41,6 +41,5 @@ pub use costs::basic_costs;
 pub use faults::TableFault;
 pub use next::{End, Next, artificials_are_zero, falls};
 pub use start_values::work_start_values;
-pub use swap::rest_of;
 pub use table::Table;
 pub use values::move_values;

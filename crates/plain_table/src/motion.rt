@@ -8,7 +8,7 @@ ghost use Rattle.lp_run.specs.Instance.{column_count, row_count};
 ghost use Rattle.lp_run.specs.Step.{Limit, direction};
 ghost use Rattle.lp_run.specs.Listing.{Judges};
 ghost use Rattle.plain_table.specs.Inner.Rows.{AreWide};
-ghost use Rattle.plain_table.specs.Inner.Steps.{IsDecided, IsMotion, column_of, ratio_by, test_listing};
+ghost use Rattle.plain_table.specs.Inner.Steps.{IsDecided, IsMotion, column_of, parts_table, ratio_by, test_listing};
 
 use crate::next::{falls, ratio_place};
 use crate::row::Row;
@@ -17,6 +17,21 @@ use bland_ratio::{Leave, leaving};
 use exact_frac::{Arith, Frac};
 use instance_model::{Instance, State};
 use lp_model::Place;
+
+/// The parts of a table that a move reads, while its spare parts are written.
+#[derive(Drop)]
+pub struct Parts<'a> {
+    /// The state.
+    pub state: &'a State,
+    /// The rows, by position.
+    pub rows: &'a [Row],
+    /// The basic values, by position.
+    pub values: &'a [Frac],
+    /// The reduced costs, by column.
+    pub costs: &'a [Frac],
+    /// How many entries of the log come before the state.
+    pub number: u64,
+}
 
 /// What the entering column does: it falls where `down` says so, or else rises, by the ratio.
 #[derive(Clone, Copy, Debug)]
@@ -40,65 +55,65 @@ fn ratio_of(decided: Leave) -> Frac
 /// Reads column `q` into `alpha`, and finds the limit that decides its step.
 pub fn decide<A: Arith>(
     inst: &Instance,
-    state: &State,
-    rows: &[Row],
-    values: &[Frac],
-    costs: &[Frac],
-    number: u64,
+    parts: &Parts,
     q: u32,
     arith: &mut A,
     alpha: &mut [Frac],
 ) -> Result<Leave, Place>
-    requires state { IsBasisOf inst.now state.now }
-    requires rows { length rows.now ≡ row_count inst.now }
-    requires wide { AreWide (column_count inst.now) rows.now }
-    requires values { length values.now ≡ row_count inst.now }
-    requires costs { length costs.now ≡ column_count inst.now }
+    requires state { IsBasisOf inst.now parts.now.state.now }
+    requires rows { length parts.now.rows.now ≡ row_count inst.now }
+    requires wide { AreWide (column_count inst.now) parts.now.rows.now }
+    requires values { length parts.now.values.now ≡ row_count inst.now }
+    requires costs { length parts.now.costs.now ≡ column_count inst.now }
     requires column { q < column_count inst.now }
     requires alpha { length alpha.old ≡ row_count inst.now }
-    ensures answer { Judges (A.width arith.old) (test_listing inst.now number state.now rows.now values.now costs.now q) result }
-    ensures decides { IfOk result (Decides inst.now state.now q (direction (at costs.now q)) values.now (column_of inst.now rows.now q)) }
-    ensures column { alpha.new ≡ column_of inst.now rows.now q }
+    ensures answer { let t = parts_table parts.now in Judges (A.width arith.old) (test_listing inst.now t.number t.state t.rows t.values t.costs q) result }
+    ensures decides { let t = parts_table parts.now in IfOk result (Decides inst.now t.state q (direction (at t.costs q)) t.values (column_of inst.now t.rows q)) }
+    ensures column { alpha.new ≡ column_of inst.now parts.now.rows.now q }
     ensures width { A.width arith.new ≡ A.width arith.old }
     ensures unfit { A.unfit_count arith.new ≡ unfit_after (A.unfit_count arith.old) result }
 {
-    read_column(rows, q as usize, alpha);
-    let down = falls(costs[q as usize]);
-    match leaving(inst, state, values, q as usize, down, alpha, arith) {
+    read_column(parts.rows, q as usize, alpha);
+    let down = falls(parts.costs[q as usize]);
+    match leaving(
+        inst,
+        parts.state,
+        parts.values,
+        q as usize,
+        down,
+        alpha,
+        arith,
+    ) {
         Ok(leave) => Ok(leave),
-        Err(refusal) => Err(ratio_place(number, q, refusal)),
+        Err(refusal) => Err(ratio_place(parts.number, q, refusal)),
     }
 }
 
 /// Reads column `q`, whose step has a limit, into `alpha`, and works its ratio test.
 pub fn find_motion<A: Arith>(
     inst: &Instance,
-    state: &State,
-    rows: &[Row],
-    values: &[Frac],
-    costs: &[Frac],
-    number: u64,
+    parts: &Parts,
     q: u32,
     arith: &mut A,
     alpha: &mut [Frac],
 ) -> Result<Motion, Place>
-    requires state { IsBasisOf inst.now state.now }
-    requires rows { length rows.now ≡ row_count inst.now }
-    requires wide { AreWide (column_count inst.now) rows.now }
-    requires values { length values.now ≡ row_count inst.now }
-    requires costs { length costs.now ≡ column_count inst.now }
+    requires state { IsBasisOf inst.now parts.now.state.now }
+    requires rows { length parts.now.rows.now ≡ row_count inst.now }
+    requires wide { AreWide (column_count inst.now) parts.now.rows.now }
+    requires values { length parts.now.values.now ≡ row_count inst.now }
+    requires costs { length parts.now.costs.now ≡ column_count inst.now }
     requires column { q < column_count inst.now }
     requires alpha { length alpha.old ≡ row_count inst.now }
-    requires limited { (limit : Limit) × IsDecided inst.now state.now rows.now values.now costs.now q limit }
-    ensures answer { Judges (A.width arith.old) (test_listing inst.now number state.now rows.now values.now costs.now q) result }
-    ensures motion { IfOk result (IsMotion inst.now state.now rows.now values.now costs.now q) }
-    ensures column { alpha.new ≡ column_of inst.now rows.now q }
+    requires limited { let t = parts_table parts.now in (limit : Limit) × IsDecided inst.now t.state t.rows t.values t.costs q limit }
+    ensures answer { let t = parts_table parts.now in Judges (A.width arith.old) (test_listing inst.now t.number t.state t.rows t.values t.costs q) result }
+    ensures motion { let t = parts_table parts.now in IfOk result (IsMotion inst.now t.state t.rows t.values t.costs q) }
+    ensures column { alpha.new ≡ column_of inst.now parts.now.rows.now q }
     ensures width { A.width arith.new ≡ A.width arith.old }
     ensures unfit { A.unfit_count arith.new ≡ unfit_after (A.unfit_count arith.old) result }
 {
-    let leave = decide(inst, state, rows, values, costs, number, q, arith, alpha)?;
+    let leave = decide(inst, parts, q, arith, alpha)?;
     Ok(Motion {
-        down: falls(costs[q as usize]),
+        down: falls(parts.costs[q as usize]),
         ratio: ratio_of(leave),
     })
 }

@@ -7,7 +7,7 @@ ghost use Rattle.bland_ratio.specs.Leave.{IsBasisOf, direction_where, ratio_plac
 ghost use Rattle.plain_table.specs.Next.{ComesNext, IsTableOf, OverflowsNext, column as column_of, prices as prices_of};
 ghost use Rattle.plain_table.specs.Inner.Next.{DecidesAt, HasUnfitRatio, StandsOff};
 
-use crate::motion::decide;
+use crate::motion::{Parts, decide};
 use crate::table::Table;
 use bland_ratio::{Leave, RatioUnfit, improves};
 use exact_frac::{Arith, Frac};
@@ -150,17 +150,14 @@ impl Table {
         ensures width { A.width arith.new ≡ A.width arith.old }
         ensures unfit { A.unfit_count arith.new ≡ unfit_after (A.unfit_count arith.old) result }
     {
-        decide(
-            inst,
-            &self.state,
-            &self.rows,
-            &self.values,
-            &self.costs,
-            self.number,
-            q,
-            arith,
-            &mut self.alpha,
-        )
+        let parts = Parts {
+            state: &self.state,
+            rows: &self.rows,
+            values: &self.values,
+            costs: &self.costs,
+            number: self.number,
+        };
+        decide(inst, &parts, q, arith, &mut self.alpha)
     }
 
     // What comes next where no column is eligible.

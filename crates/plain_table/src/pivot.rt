@@ -11,7 +11,7 @@ ghost use Rattle.plain_table.specs.Inner.Rows.{AreWide};
 
 use crate::line::{divide_line, subtract_line};
 use crate::row::Row;
-use crate::rows::eliminate_all;
+use crate::rows::{Elimination, eliminate_all};
 use crate::support::find_support;
 use crate::values::move_values;
 use exact_frac::{Arith, Frac};
@@ -138,11 +138,15 @@ pub fn work_swap<R: Threads + Sync, A: Arith>(
     let (down, rest, ratio) = (pivot.down, pivot.rest, pivot.ratio);
     divide_pivot_row(pivot, rows, arith, by)?;
     let count = find_support(by, support);
-    let columns = &support[..count];
     let depth = depth_for(alpha, count);
-    eliminate_all(
-        rt, depth, number, position, 0, q, by, columns, rows, arith, out_rows,
-    )?;
+    let elimination = Elimination {
+        number,
+        position,
+        column: q,
+        line: by,
+        support: &support[..count],
+    };
+    eliminate_all(rt, depth, &elimination, 0, rows, arith, out_rows)?;
     move_values(
         number, position, down, rest, ratio, values, alpha, arith, out_values,
     )?;

@@ -24,7 +24,7 @@ pub struct Row {
 impl Model for Row {
     ghost use Rattle.std.specs.Prelude.{List};
     ghost use Rattle.rational.specs.Rational.{ℚ};
-    ghost use Rattle.rational.proofs.Stored.{code_ℚ};
+    ghost use Rattle.rational.specs.Stored.{code_ℚ};
     ghost use Rattle.std.specs.Coded.{coded_list};
 
     ghost Value = { List ℚ };

@@ -1,11 +1,11 @@
 //! The rows of a table as a column takes a position: the worked ones stand in spare rows until all are worked.
-ghost use Rattle.std.specs.Prelude.{◌≡◌, ◌+◌, ◌<◌, ◌≤◌, ◌^◌, ℕ, [], get_or, length, OnOk};
+ghost use Rattle.std.specs.Prelude.{◌≡◌, ◌+◌, ◌<◌, ◌^◌, ◌==◌, ℕ, [], get_or, length, OnOk};
 ghost use Rattle.std.specs.Thread.{IsSync};
 ghost use Rattle.rational.specs.Sum.{at};
 ghost use Rattle.exact_frac.specs.Count.{unfit_after};
 ghost use Rattle.lp_run.specs.Listing.{Judges};
-ghost use Rattle.plain_table.specs.Inner.Lines.{IsSupport};
-ghost use Rattle.plain_table.specs.Inner.Rows.{AreEliminated, AreTaken, AreWide, CanWorkRows, EliminatesRow, IsTaken, WorksRows, row_listing, rows_listing};
+ghost use Rattle.plain_table.specs.Inner.Rows.{AreTaken, AreWide, EliminatesRow, IsTaken, row_listing};
+ghost use Rattle.plain_table.specs.Inner.Eliminations.{CanEliminate, CanWorkRows, WorksRows};
 
 use crate::row::Row;
 use exact_frac::{Arith, Frac};
@@ -13,80 +13,79 @@ use lp_model::{Kind, Place};
 use rayon::join_mut;
 use std::thread::Threads;
 
-/// Takes column `q` out of a row by the line `by`, whose numbers that are not 0 stand in these columns: the row's numbers
-/// there come one after another into a spare row. Nothing is worked for the pivot's own row, which becomes the line, and
-/// where the row has no entry in column `q`.
+/// A column that is taken out of the rows of a table by a line, which the row of one position becomes.
+#[derive(Drop)]
+pub struct Elimination<'a> {
+    /// How many entries of the log come before it.
+    pub number: u64,
+    /// The position of the row that becomes the line.
+    pub position: usize,
+    /// The column.
+    pub column: usize,
+    /// The line.
+    pub line: &'a [Frac],
+    /// The columns in which the line is not 0.
+    pub support: &'a [u32],
+}
+
+/// Takes the column out of the row in position `index`: the row's numbers in the columns of the support come one after
+/// another into a spare row. Nothing is worked for the row that becomes the line, and where the row has no entry in the
+/// column.
 fn eliminate<A: Arith>(
-    number: u64,
-    own: bool,
+    elimination: &Elimination,
     index: u32,
-    q: usize,
-    by: &[Frac],
-    columns: &[u32],
     row: &Row,
     arith: &mut A,
     out: &mut Row,
 ) -> Result<(), Place>
-    requires length { length row.now ≡ length by.now }
-    requires spare { length out.old ≡ length by.now }
-    requires column { q < length by.now }
-    requires few { length by.now < 2 ^ 32 }
-    requires support { IsSupport by.now columns.now }
-    requires count { length columns.now ≤ length by.now }
-    ensures answer { Judges (A.width arith.old) (row_listing number own index q by.now row.now) result }
-    ensures eliminated { OnOk result (EliminatesRow own q by.now columns.now row.now out.new) }
-    ensures spare { length out.new ≡ length by.now }
+    requires elimination { CanEliminate elimination.now }
+    requires length { length row.now ≡ length elimination.now.line.now }
+    requires spare { length out.old ≡ length elimination.now.line.now }
+    requires few { length elimination.now.line.now < 2 ^ 32 }
+    ensures answer { let e = elimination.now in Judges (A.width arith.old) (row_listing e.number (index == e.position) index e.column e.line.now row.now) result }
+    ensures eliminated { let e = elimination.now in OnOk result (EliminatesRow (index == e.position) e.column e.line.now e.support.now row.now out.new) }
+    ensures spare { length out.new ≡ length elimination.now.line.now }
     ensures width { A.width arith.new ≡ A.width arith.old }
     ensures unfit { A.unfit_count arith.new ≡ unfit_after (A.unfit_count arith.old) result }
 {
+    let own = index as usize == elimination.position;
     if own {
         return Ok(());
     }
-    let factor = row.get(q);
+    let factor = row.get(elimination.column);
     if factor.is_zero() {
         return Ok(());
     }
     let here = Place {
-        number,
+        number: elimination.number,
         kind: Kind::Entry,
         row: Some(index),
         column: None,
     };
-    out.set_less(here, row.as_slice(), factor, by, columns, arith)
+    out.set_less(
+        here,
+        row.as_slice(),
+        factor,
+        elimination.line,
+        elimination.support,
+        arith,
+    )
 }
 
 // Works rows into spare ones, one after another. The first of them stands in position `base`.
 fn eliminate_in_turn<A: Arith>(
-    number: u64,
-    position: usize,
+    elimination: &Elimination,
     base: usize,
-    q: usize,
-    by: &[Frac],
-    columns: &[u32],
     rows: &[Row],
     arith: &mut A,
     out: &mut [Row],
 ) -> Result<(), Place>
-    requires { CanWorkRows base q by.now columns.now rows.now out.old }
-    ensures answer { Judges (A.width arith.old) (rows_listing number position base q by.now rows.now) result }
-    ensures eliminated { OnOk result (AreEliminated position base q by.now columns.now rows.now out.new) }
-    ensures spare { AreWide (length by.now) out.new }
-    ensures width { A.width arith.new ≡ A.width arith.old }
-    ensures unfit { A.unfit_count arith.new ≡ unfit_after (A.unfit_count arith.old) result }
+    requires { CanWorkRows elimination.now base rows.now out.old }
+    ensures { WorksRows (A.width arith.old) (A.width arith.new) (A.unfit_count arith.old) (A.unfit_count arith.new)
+        elimination.now base rows.now out.new result }
 {
     for i in 0..rows.len() {
-        let index = i + base;
-        eliminate(
-            number,
-            index == position,
-            index as u32,
-            q,
-            by,
-            columns,
-            &rows[i],
-            arith,
-            &mut out[i],
-        )?;
+        eliminate(elimination, (i + base) as u32, &rows[i], arith, &mut out[i])?;
     }
     Ok(())
 }
@@ -97,25 +96,18 @@ fn eliminate_in_turn<A: Arith>(
 pub fn eliminate_all<R: Threads + Sync, A: Arith>(
     rt: &R,
     depth: u32,
-    number: u64,
-    position: usize,
+    elimination: &Elimination,
     base: usize,
-    q: usize,
-    by: &[Frac],
-    columns: &[u32],
     rows: &[Row],
     arith: &mut A,
     out: &mut [Row],
 ) -> Result<(), Place>
-    requires { CanWorkRows base q by.now columns.now rows.now out.old }
-    ensures answer { Judges (A.width arith.old) (rows_listing number position base q by.now rows.now) result }
-    ensures eliminated { OnOk result (AreEliminated position base q by.now columns.now rows.now out.new) }
-    ensures spare { AreWide (length by.now) out.new }
-    ensures width { A.width arith.new ≡ A.width arith.old }
-    ensures unfit { A.unfit_count arith.new ≡ unfit_after (A.unfit_count arith.old) result }
+    requires { CanWorkRows elimination.now base rows.now out.old }
+    ensures { WorksRows (A.width arith.old) (A.width arith.new) (A.unfit_count arith.old) (A.unfit_count arith.new)
+        elimination.now base rows.now out.new result }
 {
     if depth == 0 || rows.len() < 2 {
-        return eliminate_in_turn(number, position, base, q, by, columns, rows, arith, out);
+        return eliminate_in_turn(elimination, base, rows, arith, out);
     }
     let half = rows.len() / 2;
     let (low, high) = rows.split_at(half);
@@ -124,13 +116,9 @@ pub fn eliminate_all<R: Threads + Sync, A: Arith>(
     let (first, second) = eliminate_halves(
         rt,
         depth - 1,
-        number,
-        position,
+        elimination,
         base,
         half + base,
-        q,
-        by,
-        columns,
         low,
         high,
         arith,
@@ -153,13 +141,9 @@ pub fn eliminate_all<R: Threads + Sync, A: Arith>(
 fn eliminate_halves<R: Threads + Sync, A: Arith>(
     rt: &R,
     depth: u32,
-    number: u64,
-    position: usize,
+    elimination: &Elimination,
     base: usize,
     up: usize,
-    q: usize,
-    by: &[Frac],
-    columns: &[u32],
     low: &[Row],
     high: &[Row],
     arith: &mut A,
@@ -167,80 +151,55 @@ fn eliminate_halves<R: Threads + Sync, A: Arith>(
     low_out: &mut [Row],
     high_out: &mut [Row],
 ) -> (Result<(), Place>, Result<(), Place>)
-    requires low { CanWorkRows base q by.now columns.now low.now low_out.old }
-    requires high { CanWorkRows up q by.now columns.now high.now high_out.old }
+    requires low { CanWorkRows elimination.now base low.now low_out.old }
+    requires high { CanWorkRows elimination.now up high.now high_out.old }
     ensures low { WorksRows (A.width arith.old) (A.width arith.new) (A.unfit_count arith.old) (A.unfit_count arith.new)
-        number position base q by.now columns.now low.now low_out.new result.0 }
+        elimination.now base low.now low_out.new result.0 }
     ensures high { WorksRows (A.width own.old) (A.width own.new) (A.unfit_count own.old) (A.unfit_count own.new)
-        number position up q by.now columns.now high.now high_out.new result.1 }
+        elimination.now up high.now high_out.new result.1 }
 {
     let mut front = || -> Result<(), Place>
-        requires { IsSync R.row × CanWorkRows base q by.now columns.now low.now low_out.now }
+        requires { IsSync R.row × CanWorkRows elimination.now base low.now low_out.now }
         ensures { WorksRows (A.width arith.entry.now) (A.width arith.exit.now) (A.unfit_count arith.entry.now) (A.unfit_count arith.exit.now)
-            number position base q by.entry.now columns.entry.now low.entry.now low_out.exit.now result }
-    {
-        eliminate_all(
-            rt, depth, number, position, base, q, by, columns, low, arith, low_out,
-        )
-    };
+            elimination.entry.now base low.entry.now low_out.exit.now result }
+    { eliminate_all(rt, depth, elimination, base, low, arith, low_out) };
     let mut back = || -> Result<(), Place>
-        requires { IsSync R.row × CanWorkRows up q by.now columns.now high.now high_out.now }
+        requires { IsSync R.row × CanWorkRows elimination.now up high.now high_out.now }
         ensures { WorksRows (A.width own.entry.now) (A.width own.exit.now) (A.unfit_count own.entry.now) (A.unfit_count own.exit.now)
-            number position up q by.entry.now columns.entry.now high.entry.now high_out.exit.now result }
-    {
-        eliminate_all(
-            rt, depth, number, position, up, q, by, columns, high, own, high_out,
-        )
-    };
+            elimination.entry.now up high.entry.now high_out.exit.now result }
+    { eliminate_all(rt, depth, elimination, up, high, own, high_out) };
     join_mut(rt, &mut front, &mut back)
 }
 
-/// Takes over what was worked for a row.
-fn take_over(own: bool, q: usize, by: &[Frac], columns: &[u32], row: &mut Row, packed: &Row)
-    requires length { length row.old ≡ length by.now }
-    requires spare { length packed.now ≡ length by.now }
-    requires column { q < length by.now }
-    requires support { IsSupport by.now columns.now }
-    requires count { length columns.now ≤ length by.now }
-    ensures taken { IsTaken own q by.now columns.now row.old packed.now row.new }
-    ensures length { length row.new ≡ length by.now }
+/// Takes over what was worked for the row in position `index`.
+fn take_over(elimination: &Elimination, index: usize, row: &mut Row, packed: &Row)
+    requires elimination { CanEliminate elimination.now }
+    requires length { length row.old ≡ length elimination.now.line.now }
+    requires spare { length packed.now ≡ length elimination.now.line.now }
+    ensures taken { let e = elimination.now in IsTaken (index == e.position) e.column e.line.now e.support.now row.old packed.now row.new }
+    ensures length { length row.new ≡ length elimination.now.line.now }
 {
+    let own = index == elimination.position;
     if own {
-        row.copy_from(by);
-    } else if !row.get(q).is_zero() {
-        row.take_in(columns, packed.as_slice());
+        row.copy_from(elimination.line);
+    } else if !row.get(elimination.column).is_zero() {
+        row.take_in(elimination.support, packed.as_slice());
     }
 }
 
-/// Takes over what was worked for all rows. A row for which nothing was worked is not touched.
-pub fn take_all_over(
-    position: usize,
-    base: usize,
-    q: usize,
-    by: &[Frac],
-    columns: &[u32],
-    rows: &mut [Row],
-    packed: &[Row],
-)
+/// Takes over what was worked for all rows, the first of which stands in position `base`. A row for which nothing was
+/// worked is not touched.
+pub fn take_all_over(elimination: &Elimination, base: usize, rows: &mut [Row], packed: &[Row])
+    requires elimination { CanEliminate elimination.now }
     requires count { length packed.now ≡ length rows.old }
-    requires wide { AreWide (length by.now) rows.old }
-    requires spare { AreWide (length by.now) packed.now }
-    requires column { q < length by.now }
-    requires support { IsSupport by.now columns.now }
-    requires columns { length columns.now ≤ length by.now }
+    requires wide { AreWide (length elimination.now.line.now) rows.old }
+    requires spare { AreWide (length elimination.now.line.now) packed.now }
     requires few_rows { length rows.old + base < 2 ^ 32 }
-    ensures taken { AreTaken position base q by.now columns.now rows.old packed.now rows.new }
-    ensures wide { AreWide (length by.now) rows.new }
+    ensures taken { let e = elimination.now in AreTaken e.position base e.column e.line.now e.support.now rows.old packed.now rows.new }
+    ensures wide { AreWide (length elimination.now.line.now) rows.new }
 {
     for i in 0..rows.len() {
-        take_over(
-            i + base == position,
-            q,
-            by,
-            columns,
-            &mut rows[i],
-            &packed[i],
-        );
+        take_over(elimination, i + base, &mut rows[i], &packed[i]);
     }
 }
 

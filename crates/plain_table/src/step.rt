@@ -9,7 +9,8 @@ ghost use Rattle.plain_table.specs.Plain.{Stands};
 
 use crate::costs::{basic_costs, work_costs};
 use crate::flip::work_flip;
-use crate::rows::take_all_over;
+use crate::motion::Parts;
+use crate::rows::{Elimination, take_all_over};
 use crate::swap::work_entering;
 use crate::table::Table;
 use exact_frac::Arith;
@@ -57,13 +58,16 @@ impl Table {
         ensures width { A.width arith.new ≡ A.width arith.old }
         ensures unfit { A.unfit_count arith.new ≡ unfit_after (A.unfit_count arith.old) result }
     {
+        let parts = Parts {
+            state: &self.state,
+            rows: &self.rows,
+            values: &self.values,
+            costs: &self.costs,
+            number: self.number,
+        };
         work_flip(
             inst,
-            &self.state,
-            &self.rows,
-            &self.values,
-            &self.costs,
-            self.number,
+            &parts,
             q,
             arith,
             &mut self.alpha,
@@ -93,14 +97,17 @@ impl Table {
         ensures width { A.width arith.new ≡ A.width arith.old }
         ensures unfit { A.unfit_count arith.new ≡ unfit_after (A.unfit_count arith.old) result }
     {
+        let parts = Parts {
+            state: &self.state,
+            rows: &self.rows,
+            values: &self.values,
+            costs: &self.costs,
+            number: self.number,
+        };
         let count = work_entering(
             rt,
             inst,
-            &self.state,
-            &self.rows,
-            &self.values,
-            &self.costs,
-            self.number,
+            &parts,
             q,
             position,
             arith,
@@ -111,15 +118,14 @@ impl Table {
             &mut self.spare_values,
             &mut self.spare_costs,
         )?;
-        take_all_over(
-            position as usize,
-            0,
-            q as usize,
-            &self.pivot_row,
-            &self.support[..count],
-            &mut self.rows,
-            &self.spare_rows,
-        );
+        let elimination = Elimination {
+            number: self.number,
+            position: position as usize,
+            column: q as usize,
+            line: &self.pivot_row,
+            support: &self.support[..count],
+        };
+        take_all_over(&elimination, 0, &mut self.rows, &self.spare_rows);
         std::mem::swap(&mut self.values, &mut self.spare_values);
         std::mem::swap(&mut self.costs, &mut self.spare_costs);
         self.state.after(Entry::Swap(q, position, end));

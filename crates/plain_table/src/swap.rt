@@ -3,35 +3,18 @@ ghost use Rattle.std.specs.Prelude.{◌≡◌, ◌<◌, ◌≤◌, ◌^◌, leng
 ghost use Rattle.lp_model.specs.declared.Entry.TheVariants.{Swap};
 ghost use Rattle.lp_model.specs.declared.Side.{Side};
 ghost use Rattle.exact_frac.specs.Count.{unfit_after};
-ghost use Rattle.lp_run.specs.Instance.{column_count};
-ghost use Rattle.lp_run.specs.State.{rest};
 ghost use Rattle.plain_table.specs.Answers.{IsNextOf, JudgesStep};
 ghost use Rattle.plain_table.specs.Inner.Lines.{IsSupport};
 ghost use Rattle.plain_table.specs.Inner.Rows.{AreWide};
-ghost use Rattle.plain_table.specs.Inner.Steps.{SwapsTo, table_of};
+ghost use Rattle.plain_table.specs.Inner.Steps.{SwapsTo, parts_table};
 
-use crate::motion::find_motion;
+use crate::motion::{Parts, find_motion};
 use crate::pivot::{Pivot, work_swap};
 use crate::row::Row;
 use exact_frac::{Arith, Frac};
-use instance_model::{Instance, State};
-use lp_model::{Place, Status};
+use instance_model::{Instance, State, rest_of};
+use lp_model::Place;
 use std::thread::Threads;
-
-/// The value at which column `q` rests in a state: its lower or upper end, or 0.
-#[tactic(auto, using(exact_frac::specs::Constants::constants))]
-pub fn rest_of(inst: &Instance, state: &State, q: usize) -> Frac
-    requires column { q < column_count inst.now }
-    requires status { q < length state.now.statuses }
-    ensures { result ≡ rest inst.now state.now q }
-{
-    let bounds = inst.bounds(state.phase(), q);
-    match state.status(q) {
-        Status::Basic | Status::Zero => Frac::ZERO,
-        Status::Lower => bounds.lower().unwrap_or(Frac::ZERO),
-        Status::Upper => bounds.upper().unwrap_or(Frac::ZERO),
-    }
-}
 
 /// Works all parts of the table after the swap by which column `q` takes the position into spare ones: the rows that
 /// are worked anew, the basic values and the reduced costs. The elements of column `q` come into `alpha`, the pivot row
@@ -39,11 +22,7 @@ pub fn rest_of(inst: &Instance, state: &State, q: usize) -> Frac
 pub fn work_entering<R: Threads + Sync, A: Arith>(
     rt: &R,
     inst: &Instance,
-    state: &State,
-    rows: &[Row],
-    values: &[Frac],
-    costs: &[Frac],
-    number: u64,
+    parts: &Parts,
     q: u32,
     position: u32,
     arith: &mut A,
@@ -54,36 +33,47 @@ pub fn work_entering<R: Threads + Sync, A: Arith>(
     out_values: &mut [Frac],
     out_costs: &mut [Frac],
 ) -> Result<usize, Place>
-    requires next { (end : Side) × IsNextOf inst.now (table_of state.now rows.now values.now costs.now number) (Swap q position end) }
-    requires few_rows { length rows.now < 2 ^ 32 }
-    requires few_columns { length costs.now < 2 ^ 32 }
-    requires alpha { length alpha.old ≡ length rows.now }
-    requires spare_line { length by.old ≡ length costs.now }
-    requires spare_support { length support.old ≡ length costs.now }
-    requires spare_rows { length out_rows.old ≡ length rows.now }
-    requires spare_wide { AreWide (length costs.now) out_rows.old }
-    requires spare_values { length out_values.old ≡ length rows.now }
-    requires spare_costs { length out_costs.old ≡ length costs.now }
-    ensures listed { JudgesStep (A.width arith.old) inst.now (table_of state.now rows.now values.now costs.now number) result }
-    ensures stands { IfOk result (λ count. SwapsTo inst.now (table_of state.now rows.now values.now costs.now number) q position by.new (take count support.new)
+    requires next { (end : Side) × IsNextOf inst.now (parts_table parts.now) (Swap q position end) }
+    requires few_rows { length parts.now.rows.now < 2 ^ 32 }
+    requires few_columns { length parts.now.costs.now < 2 ^ 32 }
+    requires alpha { length alpha.old ≡ length parts.now.rows.now }
+    requires spare_line { length by.old ≡ length parts.now.costs.now }
+    requires spare_support { length support.old ≡ length parts.now.costs.now }
+    requires spare_rows { length out_rows.old ≡ length parts.now.rows.now }
+    requires spare_wide { AreWide (length parts.now.costs.now) out_rows.old }
+    requires spare_values { length out_values.old ≡ length parts.now.rows.now }
+    requires spare_costs { length out_costs.old ≡ length parts.now.costs.now }
+    ensures listed { JudgesStep (A.width arith.old) inst.now (parts_table parts.now) result }
+    ensures stands { IfOk result (λ count. SwapsTo inst.now (parts_table parts.now) q position by.new (take count support.new)
         out_rows.new out_values.new out_costs.new) }
     ensures support { IfOk result (λ count. (count ≤ length support.new) × IsSupport by.new (take count support.new)) }
-    ensures spare_wide { AreWide (length costs.now) out_rows.new }
+    ensures spare_wide { AreWide (length parts.now.costs.now) out_rows.new }
     ensures width { A.width arith.new ≡ A.width arith.old }
     ensures unfit { A.unfit_count arith.new ≡ unfit_after (A.unfit_count arith.old) result }
 {
-    let motion = find_motion(inst, state, rows, values, costs, number, q, arith, alpha)?;
+    let motion = find_motion(inst, parts, q, arith, alpha)?;
     let positions = inst.rows();
-    prove!(positions == rows.len());
+    prove!(positions == parts.rows.len());
     let pivot = Pivot {
-        number,
+        number: parts.number,
         position,
         column: q as usize,
         down: motion.down,
-        rest: rest_of(inst, state, q as usize),
+        rest: rest_of(inst, parts.state, q as usize),
         ratio: motion.ratio,
     };
     work_swap(
-        rt, &pivot, alpha, rows, values, costs, arith, by, support, out_rows, out_values, out_costs,
+        rt,
+        &pivot,
+        alpha,
+        parts.rows,
+        parts.values,
+        parts.costs,
+        arith,
+        by,
+        support,
+        out_rows,
+        out_values,
+        out_costs,
     )
 }

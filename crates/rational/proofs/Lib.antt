@@ -1,7 +1,6 @@
 pub mod Gcd
 pub mod Integer
 pub mod Ratio
-pub mod Stored
 pub mod Ring
 pub mod RationalRing
 pub mod Linear
@@ -16,3 +15,5 @@ pub mod MatrixLaws
 pub mod Computed
 pub mod Settling
 pub mod Loops
+pub mod AnswerLaws
+pub mod Opposites

@@ -1,5 +1,5 @@
 -- Laws of the order of fractions: two of them stand in one of three ways, and the tests say which.
-use Rattle.std.proofs.Common.{◌≡◌, ◌≢◌, Bool, true, false, ◌&&◌, cond, T, IsTrue, ◌↔◌, ℕ, ℤ, pos, negsuc, neg_ℤ, nat_abs, ◌*ℤ◌, ◌<ℤ◌, refl, sym, ◌∙◌, ap, ap₂, subst, arith}
+use Rattle.std.proofs.Common.{◌≡◌, ◌≢◌, Bool, true, false, ◌&&◌, cond, T, IsTrue, ◌↔◌, ℕ, ◌≤◌, ℤ, pos, negsuc, neg_ℤ, nat_abs, ◌*ℤ◌, ◌<ℤ◌, refl, sym, ◌∙◌, ap, ap₂, subst, arith}
 use Rattle.std.proofs.lemmas.Int.{ints, by_lt_z}
 use Rattle.std.proofs.lemmas.Bool.{and_parts}
 use Rattle.std.proofs.lemmas.Bool.Decides.{Decides-eqb}
@@ -9,7 +9,7 @@ use Rattle.std.specs.Cmp.{IsTotalOrder, strict, both_ways, tied_itself, Equal-is
 use Rattle.std.specs.Ordering.{MatchOrdering, int_cmp, int_eq, is_eq, is_le, is_lt, eq_by_cmp}
 use Rattle.std.specs.declared.cmp.Ordering.{Ordering}
 use Rattle.std.specs.declared.cmp.Ordering.TheVariants.{Less, Equal, Greater}
-use Rattle.rational.specs.Rational.{ℚ, ratio, zero_ℚ, neg_ℚ, abs_ℚ, cmp_ℚ, eq_ℚ, le_ℚ, lt_ℚ, ◌≤ℚ◌, ◌<ℚ◌}
+use Rattle.rational.specs.Rational.{ℚ, ratio, zero_ℚ, neg_ℚ, abs_ℚ, cmp_ℚ, eq_ℚ, one_unless_zero, le_ℚ, lt_ℚ, ◌≤ℚ◌, ◌<ℚ◌}
 use Rattle.rational.proofs.Ratio.{positive, ratio-parts, same_ℚ}
 use Rattle.rational.proofs.Ring.{⊝◌, 𝟘}
 use Rattle.rational.proofs.RationalRing.Parts.{over_parts, zero_over}
@@ -99,6 +99,19 @@ eq_ℚ-tested false v h = by (eq_ℚ v zero_ℚ) refl
 
 pub eq_ℚ-other : (v : ℚ) → v ≢ zero_ℚ → eq_ℚ v zero_ℚ ≡ false
 eq_ℚ-other v other = eq_ℚ-tested false v ((λ h. absurd (cc)), (λ e. absurd (other e)))
+
+pub one_unless_zero-le : (a : ℚ) → one_unless_zero a ≤ 1
+one_unless_zero-le a = by (eq_ℚ a zero_ℚ)
+  where
+    by : (t : Bool) → cond t 0 1 ≤ 1
+    by true = omega arith
+    by false = omega arith
+
+pub one_unless_zero-zero : one_unless_zero zero_ℚ ≡ 0
+one_unless_zero-zero = ap (λ t. cond t 0 1) ((eq_ℚ-decides zero_ℚ zero_ℚ).1 refl)
+
+pub one_unless_zero-other : (a : ℚ) → a ≢ zero_ℚ → one_unless_zero a ≡ 1
+one_unless_zero-other a other = ap (λ t. cond t 0 1) (eq_ℚ-other a other)
 
 -- ── comparing ──
 

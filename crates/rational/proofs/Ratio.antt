@@ -1,39 +1,14 @@
 -- The facts on fractions that carry all laws: two are equal where their cross products are, and a ratio against what it was made of.
-use Rattle.std.proofs.Common.{◌≡◌, ℕ, zero, suc, ◌*◌, ◌/◌, ◌<◌, ℤ, pos, negsuc, ◌*ℤ◌, neg_ℤ, nat_abs, Bool, true, false, ◌&&◌, T, eqb→eq, ltb→lt, sym, ◌∙◌, ap, subst, arith}
-use Rattle.std.proofs.Math.Dec.{T_prop}
+use Rattle.std.proofs.Common.{◌≡◌, ℕ, zero, suc, ◌*◌, ◌/◌, ◌<◌, ℤ, pos, negsuc, ◌*ℤ◌, neg_ℤ, nat_abs, T, sym, ◌∙◌, ap, subst, arith}
 use Rattle.std.proofs.Math.Nat.{div-mul_cancel, mul_comm, dvd-mul_left, dvd_antisymm}
 use Rattle.std.specs.Int.{◌∣◌}
-use Rattle.rational.specs.Gcd.{gcd, IsCoprime, is_lowest, quotient}
+use Rattle.rational.specs.Gcd.{gcd, is_lowest, quotient}
 use Rattle.rational.specs.Rational.{ℚ, ratio}
 use Rattle.rational.proofs.Gcd.{IsGcd-gcd, gcd-comm, dvd_of_coprime}
 use Rattle.rational.proofs.Integer.{*ℤ_assoc, *ℤ-swap, nat_abs-*ℤ, *ℤ-cancel, neg_ℤ-*ℤ}
+use Rattle.rational.specs.Inner.Parts.{pair}
 pub use Rattle.rational.specs.Inner.Lowest.{lowest_from}
-
-and_parts : (a b : Bool) → T (a && b) → T a × T b
-and_parts true true t = (tt, tt)
-and_parts true false t = absurd t
-and_parts false b t = absurd t
-
-pub coprime_from_lowest : (p : ℤ) (q : ℕ) → T (is_lowest p q) → IsCoprime (nat_abs p) q
-unfolding is_lowest gcd
-coprime_from_lowest p q t = eqb→eq _ _ (and_parts _ _ t).0
-
-pub positive_from_lowest : (p : ℤ) (q : ℕ) → T (is_lowest p q) → 0 < q
-unfolding is_lowest gcd
-positive_from_lowest p q t = ltb→lt _ _ (and_parts _ _ t).1
-
-abbrev pair : (p : ℤ) (q : ℕ) → T (is_lowest p q) → ℚ
-pair p q t = record { numerator = p; denominator = q; lowest = t }
-
-pair-cong : (p p' : ℤ) (q q' : ℕ) (t : T (is_lowest p q)) (t' : T (is_lowest p' q')) → p ≡ p' → q ≡ q' → pair p q t ≡ pair p' q' t'
-pair-cong p p' q q' t t' e f =
-    let P : ℤ → Type 0 = λ z. (u : T (is_lowest z q')) → pair p q t ≡ pair z q' u in
-    let Q : ℕ → Type 0 = λ n. (u : T (is_lowest p n)) → pair p q t ≡ pair p n u in
-    subst P e (subst Q f (λ u. ap (pair p q) (T_prop _ t u))) t'
-
--- two fractions are equal where their pairs are
-pub same_ℚ : (a b : ℚ) → a.numerator ≡ b.numerator → a.denominator ≡ b.denominator → a ≡ b
-same_ℚ a b e f = pair-cong a.numerator b.numerator a.denominator b.denominator a.lowest b.lowest e f
+pub use Rattle.rational.specs.Inner.Parts.{coprime_from_lowest, positive_from_lowest, same_ℚ, ratio-parts}
 
 quotient-*ℤ : (p : ℤ) (g : ℕ) → g ∣ nat_abs p → quotient p g *ℤ pos g ≡ p
 unfolding quotient
@@ -88,10 +63,6 @@ ratio-cong p p' q q' some some' e =
     (*ℤ-cancel (n *ℤ pos d') (n' *ℤ pos d) q some
     (*ℤ-cancel (n *ℤ pos d' *ℤ pos q) (n' *ℤ pos d *ℤ pos q) q' some'
     (cross_both n n' p p' (pos d) (pos d') (pos q) (pos q') (ratio-cross p q some) (ratio-cross p' q' some') e)))
-
--- a fraction is the ratio of its parts
-pub ratio-parts : (a : ℚ) → ratio a.numerator a.denominator ≡ a
-ratio-parts a = eq_from_cross (ratio a.numerator a.denominator) a (ratio-cross a.numerator a.denominator (positive a))
 
 -- parts in lowest terms are those of their ratio
 pub numerator-ratio : (p : ℤ) (q : ℕ) → T (is_lowest p q) → (ratio p q).numerator ≡ p

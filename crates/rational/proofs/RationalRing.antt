@@ -132,3 +132,10 @@ pub reading-neg_ℚ : (ρ : ℕ → ℚ) (x : Expression) → neg_ℚ (reading r
 reading-neg_ℚ = reading-neg rationals
 
 pub ruleset readings_ℚ = (reading--ℚ, reading-+ℚ, reading-*ℚ, reading-neg_ℚ)
+
+-- worked: a goal with its atoms named, and one that has 0 and 1
+named : (a b c : ℚ) → (a +ℚ b) *ℚ c ≡ c *ℚ a -ℚ neg_ℚ (c *ℚ b)
+named a b c = goal_ℚ (a ∷ b ∷ c ∷ []) (λ _ at same. simp (readings_ℚ, at 0, at 1, at 2) (same _ _ tt))
+
+named-constants : (a : ℚ) → a *ℚ one_ℚ +ℚ zero_ℚ ≡ one_ℚ *ℚ a
+named-constants a = goal_ℚ (a ∷ []) (λ ρ at same. simp (readings_ℚ, reading-zero_ℚ ρ, reading-one_ℚ ρ, at 0) (same _ _ tt))

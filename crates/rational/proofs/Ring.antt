@@ -8,7 +8,7 @@ pub mod Values
 pub mod Solver
 pub mod Integers
 use Rattle.std.specs.Prelude.{◌≡◌, ℕ, ◌+◌, ◌*◌, [], ◌∷◌, ℤ, pos, ◌+ℤ◌, ◌-ℤ◌, ◌*ℤ◌, neg_ℤ}
-pub use Integers.{ring_ℤ, goal_ℤ, readings_ℤ, of_pos}
+pub use Integers.{ring_ℤ, goal_ℤ, readings_ℤ, reading-zero_ℤ, reading-one_ℤ, of_pos}
 pub use Expressions.{◌≐◌, ◌⊙◌≗◌⟹◌, ◌⊕◌, ◌⊖◌, ◌⊗◌, ⊝◌, 𝟘, 𝟙, literal}
 pub use Laws.{CommutativeRing}
 pub use Solver.{ring, reading_atoms}
@@ -33,3 +33,6 @@ line₅ R f c = ring R 3 (λ x y z. (x ⊕ y) ⊗ z ≐ z ⊗ y ⊕ x ⊗ z) tt 
 -- a goal that stands, with its atoms named
 line₆ : (a b c : ℤ) → (a +ℤ b) *ℤ c ≡ c *ℤ a -ℤ neg_ℤ (c *ℤ b)
 line₆ a b c = goal_ℤ (a ∷ b ∷ c ∷ []) (λ _ at same. simp (readings_ℤ, at 0, at 1, at 2) (same _ _ tt))
+
+line₇ : (a : ℤ) → a *ℤ pos 1 +ℤ pos 0 ≡ pos 1 *ℤ a
+line₇ a = goal_ℤ (a ∷ []) (λ ρ at same. simp (readings_ℤ, reading-zero_ℤ ρ, reading-one_ℤ ρ, at 0) (same _ _ tt))

@@ -7,3 +7,4 @@ pub mod Matrix
 pub mod Sparse
 pub mod Worked
 pub mod Lines
+pub mod Stored

@@ -1,6 +1,6 @@
 -- Exact fractions. A fraction is a pair in lowest terms, so two fractions are equal exactly where their pairs are.
 use Rattle.std.proofs.Common.{ℕ, zero, suc, ◌*◌, ◌/◌, ℤ, pos, negsuc, ◌+ℤ◌, ◌*ℤ◌, neg_ℤ, nat_abs, Bool, ◌&&◌, T, eqb, arith}
-use Rattle.std.specs.Prelude.{int_le, int_lt}
+use Rattle.std.specs.Prelude.{int_le, int_lt, if◌then◌else◌}
 use Rattle.std.specs.Ordering.{int_cmp, int_eq}
 use Rattle.std.specs.declared.cmp.Ordering.{Ordering}
 use Rattle.rational.specs.Gcd.{gcd, gcd_within, is_lowest, quotient}
@@ -83,6 +83,10 @@ lt_ℚ a b = int_lt (a.numerator *ℤ pos b.denominator) (b.numerator *ℤ pos a
 -- equality as a test
 unfoldable pub eq_ℚ : ℚ → ℚ → Bool
 eq_ℚ a b = int_eq a.numerator b.numerator && eqb a.denominator b.denominator
+
+-- 0 for 0, and 1 for any other number: it counts the numbers that are not 0, and the products of a factor, which are skipped where it is 0
+abbrev pub one_unless_zero : ℚ → ℕ
+one_unless_zero a = if eq_ℚ a zero_ℚ then 0 else 1
 
 infix 4 ◌≤ℚ◌
 pub record ◌≤ℚ◌ (a b : ℚ) : Type 0 where

@@ -10,11 +10,12 @@
 //! - `Sum`: finite sums, and vectors. `Sparse`: sparse lists of fractions. `Matrix`: products, regular matrices and
 //!   inverses.
 //! - `Worked`: calculations, which list the values that they work. `Lines`: a sparse column taken out of a number and
-//!   out of a vector, as calculations.
-//! - `Inner` is no part of it: it proves that what `ratio` makes is in lowest terms, which the definition needs.
+//!   out of a vector, as calculations. `Stored`: how a fraction is stored, as its two parts.
+//! - `Inner` is no part of it: it proves that what `ratio` makes is in lowest terms, and a fraction the ratio of its parts,
+//!   which definitions need.
 //!
 //! **`proofs/` has the laws**: `Ratio`, the facts that carry all others, with `Gcd` and `Integer` beneath them;
 //! `FieldLaws`, `OrderLaws`, `ProductOrder` and `WidthLaws` of fractions; `SumLaws`, `VectorLaws`, `SparseLaws` and
-//! `MatrixLaws` of many; and `Stored`, by which a list of fractions is stored. `Ring` and `RationalRing` prove identities
-//! of commutative rings, and `Linear` linear facts on fractions; `docs/SOLVERS.md` says how to use both.
+//! `MatrixLaws` of many. `Ring` and `RationalRing` prove identities of commutative rings, and `Linear` linear facts on
+//! fractions; `docs/SOLVERS.md` says how to use both.
 #![tactic(auto)]

@@ -1,25 +1,24 @@
 -- The sum of the objective, product by product.
-use Rattle.std.proofs.Common.{◌≡◌, ◌≢◌, ◌↔◌, IsTrue, ℕ, zero, suc, ◌+◌, ◌-◌, ◌<◌, ◌≤◌, List, [], ◌∷◌, ◌++◌, length, get_or, cond, Bool, true, false, ◌⊎◌, inl, inr, Option, Some, None, Result, refl, sym, ◌∙◌, ap, ap₂, subst, arith}
+use Rattle.std.proofs.Common.{drop, ◌≡◌, ◌≢◌, ◌↔◌, IsTrue, ℕ, zero, suc, ◌+◌, ◌-◌, ◌<◌, ◌≤◌, List, [], ◌∷◌, ◌++◌, length, get_or, Bool, true, false, ◌⊎◌, inl, inr, Option, Some, None, Result, refl, sym, ◌∙◌, ap, ap₂, subst, arith}
 use Rattle.lp_model.specs.declared.Kind.TheVariants as kind
 use Rattle.lp_model.specs.declared.Place.{Place}
-use Rattle.rational.specs.Rational.{ℚ, zero_ℚ, ◌+ℚ◌, ◌*ℚ◌, eq_ℚ}
+use Rattle.rational.specs.Rational.{ℚ, one_unless_zero, zero_ℚ, ◌+ℚ◌, ◌*ℚ◌, eq_ℚ}
 use Rattle.rational.specs.Sum.{at, sum_ℚ}
 use Rattle.rational.specs.Width.{FitsWidth}
 use Rattle.rational.specs.Worked.{bind, done, more, placed, settle, work}
 use Rattle.rational.proofs.OrderLaws.{eq_ℚ-decides}
 use Rattle.rational.proofs.RationalRing.{ring_ℚ}
 use Rattle.rational.proofs.Ring.{◌≐◌, ◌⊕◌, ◌⊗◌, 𝟘}
-use Rattle.rational.proofs.Settling.{more-none, more-some, more_answer, settle-answer, settle-done, settle-same}
+use Rattle.rational.proofs.Settling.{more-none, more-some, more_answer, settle-answer, settle-same}
 use Rattle.rational.proofs.SumLaws.{at_or_other, sum-none, sum-suc, sum-zero_terms}
 use Rattle.rational.proofs.WidthLaws.{fits_width-decides, unfit_tested}
 use Rattle.lp_run.specs.Ends.{objective_at}
-use Rattle.lp_run.specs.Instance.{Instance, structural, structural_count}
+use Rattle.lp_run.specs.Instance.{Instance, no_structural, structural, structural_count}
 use Rattle.lp_run.specs.Listing.{AllFit, Listed, added, first_unfit, or_first, place, total_listing, Judges}
 use Rattle.lp_run.proofs.FirstUnfit.{fit-append, fit-placed, one-fits, one-unfit, unfit-append, unfit-placed}
-use Rattle.std.specs.List.{range_with_len}
+use Rattle.std.specs.List.{sum_by}
 use Rattle.std.proofs.lemmas.List.{get_or_default}
-use Rattle.std.proofs.lemmas.List.Sums.{sum_by-cons}
-use Rattle.run_outcome.specs.Endings.{costs_from, costs_one}
+use Rattle.std.proofs.lemmas.List.Sums.{sum_by-drop_more}
 use Rattle.run_outcome.specs.Inner.Parts.{HasProduct, terms}
 
 -- an item that is read is the list's
@@ -176,33 +175,19 @@ module _ (inst : Instance) (k : ℕ) (x : List ℚ) where
 
 -- ── what it costs ──
 
--- the structurals from j on: j itself, and those after it
-costs_step : (inst : Instance) (j n : ℕ) → j < n → costs_from inst j (n - j) ≡ costs_one (structural inst j).cost + costs_from inst (j + 1) (n - (j + 1))
-costs_step inst j n below =
-    let e : n - j ≡ suc (n - (j + 1)) = omega arith in
-    ap (costs_from inst j) e ∙ sum_by-cons (λ j. costs_one (structural inst j).cost) j (range_with_len (j + 1) (n - (j + 1)))
+-- the structurals with a cost, from one on
+abbrev pub costs_from : Instance → ℕ → ℕ
+costs_from inst j = sum_by (λ c. one_unless_zero c.cost) (drop j inst.structurals)
 
-pub costs_start : (inst : Instance) (n start : ℕ) → start + costs_from inst 0 (n - 0) ≤ start + costs_from inst 0 n
-costs_start inst n start =
-    let same : n - 0 ≡ n = omega arith in
-    omega (arith, ap (costs_from inst 0) same)
+-- j itself, and those after it
+costs_step : (inst : Instance) (j : ℕ) → j < structural_count inst → costs_from inst j ≡ one_unless_zero (structural inst j).cost + costs_from inst (j + 1)
+costs_step inst j below = sum_by-drop_more (λ c. one_unless_zero c.cost) inst.structurals j no_structural below
 
 -- a step that works no more than its cost asks leaves the rest
-pub worked_more : (inst : Instance) (j n : ℕ) → j < n → (c : ℚ) → c ≡ (structural inst j).cost → (start all before now : ℕ) → now ≤ before + costs_one c
-    → before + costs_from inst j (n - j) ≤ start + all → now + costs_from inst (j + 1) (n - (j + 1)) ≤ start + all
-worked_more inst j n below c is start all before now step left = omega (arith, costs_step inst j n below, ap costs_one is, step, left)
+pub worked_more : (inst : Instance) (j : ℕ) → j < structural_count inst → (c : ℚ) → c ≡ (structural inst j).cost → (start all before now : ℕ) → now ≤ before + one_unless_zero c
+    → before + costs_from inst j ≤ start + all → now + costs_from inst (j + 1) ≤ start + all
+worked_more inst j below c is start all before now step left = omega (arith, costs_step inst j below, ap one_unless_zero is, step, left)
 
-pub worked_once : (inst : Instance) (j n : ℕ) → j < n → (c : ℚ) → c ≡ (structural inst j).cost → (start all before now : ℕ) → now ≤ before + costs_one c
-    → before + costs_from inst j (n - j) ≤ start + all → now ≤ start + all
-worked_once inst j n below c is start all before now step left = omega (arith, costs_step inst j n below, ap costs_one is, step, left)
-
--- a cost of 0 adds nothing
-pub none_added : (w : ℕ) (r a b : ℚ) → a ≡ zero_ℚ → settle w (more r a b) ≡ Some r
-none_added w r a b e = ap (settle w) (more-none r a b (inl e)) ∙ settle-done w r
-
-pub costs_zero : (c : ℚ) → c ≢ zero_ℚ → costs_one c ≡ 1
-costs_zero c apart = by (eq_ℚ c zero_ℚ) refl
-  where
-    by : (b : Bool) → eq_ℚ c zero_ℚ ≡ b → costs_one c ≡ 1
-    by true e = absurd (apart ((eq_ℚ-decides c zero_ℚ).0 e))
-    by false e = ap (λ b. cond b 0 1) e
+pub worked_once : (inst : Instance) (j : ℕ) → j < structural_count inst → (c : ℚ) → c ≡ (structural inst j).cost → (start all before now : ℕ) → now ≤ before + one_unless_zero c
+    → before + costs_from inst j ≤ start + all → now ≤ start + all
+worked_once inst j below c is start all before now step left = omega (arith, worked_more inst j below c is start all before now step left)

@@ -1,10 +1,9 @@
 -- How a run ends at a state, and why the outcome of that state is not given.
-use Rattle.std.specs.Prelude.{◌≡◌, ℕ, List, length, sum_by, Result, Ok, Err, if◌then◌else◌}
+use Rattle.std.specs.Prelude.{◌≡◌, ℕ, List, length, Result, Ok, Err}
 use Rattle.lp_model.specs.declared.Entry.{Entry}
-use Rattle.rational.specs.Rational.{ℚ, zero_ℚ, eq_ℚ}
-use Rattle.std.specs.List.{range_with_len}
+use Rattle.rational.specs.Rational.{ℚ}
 use Rattle.exact_frac.specs.Count.{raised}
-use Rattle.lp_run.specs.Instance.{Instance, column_count, row_count, structural, structural_count}
+use Rattle.lp_run.specs.Instance.{Instance, column_count, row_count}
 use Rattle.lp_run.specs.Listing.{IsFirstTotal}
 use Rattle.lp_run.specs.Solution.{reduced}
 use Rattle.lp_run.specs.State.{State}
@@ -38,14 +37,3 @@ abbrev pub count_after : {A : Type 0} → ℕ → Result A OutcomeFault → ℕ
 count_after count (Ok outcome) = count
 count_after count (Err fault.Memory) = count
 count_after count (Err (fault.Overflow here)) = raised count 1
-
--- 1 for a cost that is not 0
-abbrev pub costs_one : ℚ → ℕ
-costs_one c = if eq_ℚ c zero_ℚ then 0 else 1
-
--- how many structurals have a cost: of so many from one on, and of all
-abbrev pub costs_from : Instance → ℕ → ℕ → ℕ
-costs_from inst from count = sum_by (λ j. costs_one (structural inst j).cost) (range_with_len from count)
-
-abbrev pub cost_count : Instance → ℕ
-cost_count inst = costs_from inst 0 (structural_count inst)

@@ -1,10 +1,11 @@
 //! The outcome of a final state.
 ghost use Rattle.std.specs.Prelude.{◌≡◌, ◌+◌, ◌≤◌, List, length, IfErr, IfOk};
+ghost use Rattle.bland_ratio.specs.Entries.{nonzero_costs};
 ghost use Rattle.deck_model.specs.Outcome.{outcome_of};
 ghost use Rattle.lp_model.specs.declared.Entry.{Entry};
 ghost use Rattle.lp_run.specs.Ends.{Yields};
 ghost use Rattle.lp_run.specs.Instance.{column_count, row_count};
-ghost use Rattle.run_outcome.specs.Endings.{EndsAt, IsOutcomeCause, cost_count, count_after};
+ghost use Rattle.run_outcome.specs.Endings.{EndsAt, IsOutcomeCause, count_after};
 ghost use Rattle.run_outcome.specs.declared.stop.Stop.TheVariants as stop;
 
 use crate::fault::OutcomeFault;
@@ -49,7 +50,7 @@ pub fn outcome<A: Arith>(
     ensures fault { IfErr result (λ fault. (log : List Entry) → length log ≡ ending.now.number → IsOutcomeCause (A.width arith.old) inst.now log ending.now.state.now fault) }
     ensures width { A.width arith.new ≡ A.width arith.old }
     ensures unfit { A.unfit_count arith.new ≡ count_after (A.unfit_count arith.old) result }
-    ensures work { A.work_count arith.new ≤ A.work_count arith.old + cost_count inst.now }
+    ensures work { A.work_count arith.new ≤ A.work_count arith.old + nonzero_costs inst.now }
 {
     match stop {
         Stop::Optimal => optimum(alloc, inst, ending, arith),
@@ -75,7 +76,7 @@ fn optimum<A: Arith>(
     ensures fault { IfErr result (λ fault. (log : List Entry) → length log ≡ ending.now.number → IsOutcomeCause (A.width arith.old) inst.now log ending.now.state.now fault) }
     ensures width { A.width arith.new ≡ A.width arith.old }
     ensures unfit { A.unfit_count arith.new ≡ count_after (A.unfit_count arith.old) result }
-    ensures work { A.work_count arith.new ≤ A.work_count arith.old + cost_count inst.now }
+    ensures work { A.work_count arith.new ≤ A.work_count arith.old + nonzero_costs inst.now }
 {
     let x = point(alloc, inst, ending.state, ending.values)?;
     let mut y = Vec::from_slice(alloc, ending.prices)?;

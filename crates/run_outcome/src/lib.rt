@@ -7,7 +7,7 @@
 //! at an optimum with the place of the first sum of the objective that does not fit the width of the arithmetic
 //! (`IsOutcomeCause`). The count of unfit results rises by one exactly then.
 //!
-//! **Work.** At most one product for each structural with a cost (`cost_count`).
+//! **Work.** At most one product for each structural with a cost (`nonzero_costs` of `bland_ratio`).
 //!
 //! It stands on `instance_model` for instances and states, on `deck_model` for outcomes, on `sparse_steps` and
 //! `exact_frac` for numbers, and on `bland_ratio` for the direction of a column.

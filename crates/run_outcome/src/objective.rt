@@ -1,17 +1,15 @@
 //! The objective at a point.
 ghost use Rattle.std.specs.Prelude.{◌≡◌, ◌≢◌, ◌+◌, ◌≤◌, ◌↔◌, length, IfOk, IsTrue, None};
 ghost use Rattle.rational.specs.Rational.{zero_ℚ};
+ghost use Rattle.exact_frac.specs.Count.{unfit_after};
 ghost use Rattle.lp_model.specs.declared.Kind.TheVariants as kind;
 ghost use Rattle.lp_run.specs.Ends.{objective_at};
 ghost use Rattle.lp_run.specs.Instance.{structural_count};
 ghost use Rattle.lp_run.specs.Listing.{added, place, total_listing, Judges};
-ghost use Rattle.rational.specs.Worked.{more};
-ghost use Rattle.exact_frac.specs.Count.{unfit_after};
-ghost use Rattle.exact_frac.specs.Settles.{Settles};
-ghost use Rattle.run_outcome.specs.Endings.{cost_count, costs_one};
+ghost use Rattle.bland_ratio.specs.Entries.{nonzero_costs};
 ghost use Rattle.run_outcome.specs.Inner.Parts.{HasProduct, terms};
 
-use exact_frac::{Arith, Frac, Unfit};
+use exact_frac::{Arith, Frac};
 use instance_model::Instance;
 use lp_model::{Kind, Place};
 use sparse_steps::more_product;
@@ -41,7 +39,7 @@ pub fn objective<A: Arith>(
     ensures listed { Judges (A.width arith.old) (total_listing inst.now number x.now) result }
     ensures width { A.width arith.new ≡ A.width arith.old }
     ensures unfit { A.unfit_count arith.new ≡ unfit_after (A.unfit_count arith.old) result }
-    ensures work { A.work_count arith.new ≤ A.work_count arith.old + cost_count inst.now }
+    ensures work { A.work_count arith.new ≤ A.work_count arith.old + nonzero_costs inst.now }
 {
     if has_product(inst, x) {
         return add_up(inst, number, x, arith);
@@ -72,19 +70,6 @@ fn is_worked(a: Frac, b: Frac) -> bool
     !a.is_zero() && !b.is_zero()
 }
 
-// `total` and the product of a cost and a value, which is worked only where there is a cost.
-fn more_cost<A: Arith>(total: Frac, cost: Frac, value: Frac, arith: &mut A) -> Result<Frac, Unfit>
-    ensures settled { Settles (A.width arith.old) (more total cost value) result }
-    ensures width { A.width arith.new ≡ A.width arith.old }
-    ensures unfit { A.unfit_count arith.new ≡ unfit_after (A.unfit_count arith.old) result }
-    ensures work { A.work_count arith.new ≤ A.work_count arith.old + costs_one cost }
-{
-    if cost.is_zero() {
-        return Ok(total);
-    }
-    more_product(total, cost, value, arith)
-}
-
 // The constant and all products.
 fn add_up<A: Arith>(inst: &Instance, number: u64, x: &[Frac], arith: &mut A) -> Result<Frac, Place>
     requires { length x.now ≡ structural_count inst.now }
@@ -92,11 +77,11 @@ fn add_up<A: Arith>(inst: &Instance, number: u64, x: &[Frac], arith: &mut A) -> 
     ensures listed { Judges (A.width arith.old) (added inst.now.constant (terms inst.now number x.now 0 (structural_count inst.now))) result }
     ensures width { A.width arith.new ≡ A.width arith.old }
     ensures unfit { A.unfit_count arith.new ≡ unfit_after (A.unfit_count arith.old) result }
-    ensures work { A.work_count arith.new ≤ A.work_count arith.old + cost_count inst.now }
+    ensures work { A.work_count arith.new ≤ A.work_count arith.old + nonzero_costs inst.now }
 {
     let mut total = inst.constant();
     for j in 0..inst.structurals() {
-        match more_cost(total, inst.deck_cost(j), x[j], arith) {
+        match more_product(total, inst.deck_cost(j), x[j], arith) {
             Ok(sum) => total = sum,
             Err(_) => return Err(total_place(number, Some(j as u32))),
         }

@@ -10,8 +10,8 @@ ghost use Rattle.lp_run.specs.Step.{direction};
 ghost use Rattle.bland_ratio.specs.Leave.{direction_where};
 
 use exact_frac::Frac;
-use instance_model::{Instance, State};
-use lp_model::{Sense, Status};
+use instance_model::{Instance, State, rest_of};
+use lp_model::Sense;
 use std::alloc::{AllocError, Global};
 
 /// The values of the structurals, at these basic values.
@@ -69,21 +69,6 @@ fn place_basic(state: &State, numbers: &[Frac], out: &mut [Frac])
         if j < out.len() {
             out[j] = numbers[p];
         }
-    }
-}
-
-// The value at which a column rests in a state: its lower or upper end, or 0.
-#[tactic(auto, using(exact_frac::specs::Constants::constants))]
-fn rest_of(inst: &Instance, state: &State, j: usize) -> Frac
-    requires column { j < column_count inst.now }
-    requires status { j < length state.now.statuses }
-    ensures { result ≡ rest inst.now state.now j }
-{
-    let bounds = inst.bounds(state.phase(), j);
-    match state.status(j) {
-        Status::Basic | Status::Zero => Frac::ZERO,
-        Status::Lower => bounds.lower().unwrap_or(Frac::ZERO),
-        Status::Upper => bounds.upper().unwrap_or(Frac::ZERO),
     }
 }
 

@@ -16,6 +16,7 @@
 #![tactic(auto)]
 
 ghost use Rattle.std.specs.Prelude.{◌≡◌, ◌+◌, ◌≤◌, length};
+ghost use Rattle.rational.specs.Rational.{one_unless_zero};
 ghost use Rattle.rational.specs.Worked.{less, less_unless, more};
 ghost use Rattle.rational.specs.Lines as lines;
 ghost use Rattle.rational.specs.Sparse.{entry_at};
@@ -34,12 +35,12 @@ pub fn entry(column: &SparseCol<Frac>, row: usize) -> Frac
     column.get(row).unwrap_or(Frac::ZERO)
 }
 
-/// `x` less the product of `a` and `b`, at most one product. A product of 0 is skipped.
+/// `x` less the product of `a` and `b`. A product of 0 is skipped: at most one is worked, and none where `a` is 0.
 pub fn less_product<A: Arith>(x: Frac, a: Frac, b: Frac, arith: &mut A) -> Result<Frac, Unfit>
     ensures settled { Settles (A.width arith.old) (less x a b) result }
     ensures width { A.width arith.new ≡ A.width arith.old }
     ensures unfit { A.unfit_count arith.new ≡ unfit_after (A.unfit_count arith.old) result }
-    ensures work { A.work_count arith.new ≤ A.work_count arith.old + 1 }
+    ensures work { A.work_count arith.new ≤ A.work_count arith.old + one_unless_zero a }
 {
     if a.is_zero() || b.is_zero() {
         return Ok(x);
@@ -48,12 +49,12 @@ pub fn less_product<A: Arith>(x: Frac, a: Frac, b: Frac, arith: &mut A) -> Resul
     arith.sub(x, product)
 }
 
-/// `x` and the product of `a` and `b`, at most one product. A product of 0 is skipped.
+/// `x` and the product of `a` and `b`. A product of 0 is skipped: at most one is worked, and none where `a` is 0.
 pub fn more_product<A: Arith>(x: Frac, a: Frac, b: Frac, arith: &mut A) -> Result<Frac, Unfit>
     ensures settled { Settles (A.width arith.old) (more x a b) result }
     ensures width { A.width arith.new ≡ A.width arith.old }
     ensures unfit { A.unfit_count arith.new ≡ unfit_after (A.unfit_count arith.old) result }
-    ensures work { A.work_count arith.new ≤ A.work_count arith.old + 1 }
+    ensures work { A.work_count arith.new ≤ A.work_count arith.old + one_unless_zero a }
 {
     if a.is_zero() || b.is_zero() {
         return Ok(x);

@@ -1,11 +1,10 @@
 -- What a run works, entry by entry: as long as all fits, the first value that does not fit is the first of the step.
-use Rattle.std.proofs.Common.{◌≡◌, ℕ, ◌+◌, ◌≤◌, inl, List, [], ◌∷◌, ◌++◌, length, Some, refl, sym, ◌∙◌, ap, subst, arith}
+use Rattle.std.proofs.Common.{◌≡◌, ℕ, ◌+◌, List, [], ◌∷◌, ◌++◌, length, Some, refl, sym, ◌∙◌, ap, subst, arith}
 use Rattle.std.proofs.lemmas.List.{append_assoc, append-nil}
 use Rattle.lp_model.specs.declared.Entry.{Entry}
 use Rattle.lp_model.specs.declared.Place.{Place}
-use Rattle.lp_model.specs.Log.{moves}
 use Rattle.lp_run.specs.Instance.{Instance}
-use Rattle.lp_run.specs.Listing.{AllFit, IsFirstUnfit, Listed, MakingLists, Overflows, StartFits, StepLists, StepsList, first_unfit, start_listing}
+use Rattle.lp_run.specs.Listing.{AllFit, IsFirstUnfit, Listed, MakingLists, StartFits, StepLists, StepsList, first_unfit, start_listing}
 use Rattle.lp_run.specs.Run.{IsRun, Leads}
 use Rattle.lp_run.specs.State.{State, after, start_of}
 use Rattle.lp_run.proofs.FirstUnfit.{all-append, fit-append}
@@ -57,7 +56,3 @@ module _ (w : ℕ) (inst : Instance) where
     lists,
     ap (first_unfit w) (append_assoc (start_listing inst) h.before now) ∙ fit-append w (start_listing inst) (h.before ++ now) h.start ∙ fit-append w h.before now h.fits ∙ first,
   )
-
-  pub overflows-in-step : (budget : ℕ) (log : List Entry) (s : State) (now : List Listed) (p : Place) → IsRun inst log s → moves log ≤ budget
-      → HasFitted w inst log → StepLists inst (length log) s now → first_unfit w now ≡ Some p → Overflows w budget inst p
-  overflows-in-step budget log s now p run within h lists first = (log, s, run, within, inl (first-of-step log s now p h lists first))

@@ -20,7 +20,8 @@ use Rattle.plain_table.specs.declared.faults.TableFault.{TableFault}
 use Rattle.plain_table.specs.declared.faults.TableFault.TheVariants as table
 use Rattle.run_outcome.specs.declared.stop.Stop.{Stop}
 use Rattle.run_outcome.specs.declared.stop.Stop.TheVariants as stop
-use Rattle.two_phase.specs.Board.{AreBuilt, AreCounts, BoardStands, FollowsEntry, HasCome, HasFactors, IsChoiceFor, IsRecordCause, IsSameRun, IsStandingOf, IsStartCause, IsTakingCause, IsTicketCause, IsUnmoved, KeepsFactors, OnFactors, Records, noted, noted_course, noted_epoch, noted_updates, standing_on, state_of}
+use Rattle.two_phase.specs.Board.{AreBuilt, AreCounts, BoardStands, FollowsEntry, HasCome, HasFactors, IsChoiceFor, IsRecordCause, IsSameRun, IsStandingOf, IsStartCause, IsTicketCause, IsUnmoved, KeepsFactors, OnFactors, Records, StartsUnfit, standing_on, state_of}
+use Rattle.two_phase.specs.Inner.Recording.{IsTakingCause, noted, noted_course, noted_epoch, noted_updates}
 use Rattle.two_phase.specs.Modes.{mode_of}
 use Rattle.two_phase.specs.Standing.{answer_of, board_fault, standing_of}
 use Rattle.two_phase.specs.declared.board.Board.{Board}
@@ -40,6 +41,7 @@ use Rattle.two_phase.specs.Inner.Grounds.{GroundReaches, GroundRescues, GroundSt
 use Rattle.two_phase.specs.Inner.Plains.{HasRisen, IsRunFault, OverflowsFor}
 use Rattle.two_phase.proofs.Counting.{CountsFollow, built_counts, counts_early, one_factors, start_counts}
 use Rattle.two_phase.proofs.Grounds.{one_state, reached_by}
+use Rattle.two_phase.proofs.Spending.{factors_mode}
 
 -- ── what is seen of a board ──
 
@@ -173,9 +175,9 @@ pub plain_mode : (g : Ground) → IsPlain g → mode_of g ≡ mode.Plain
 plain_mode (ground.Factors it) plain = absurd plain
 plain_mode (ground.Plain t) plain = refl
 
-factors_mode : (g : Ground) → (IsPlain g → ⊥) → mode_of g ≡ mode.Factors
-factors_mode (ground.Factors it) plain = refl
-factors_mode (ground.Plain t) plain = absurd (plain tt)
+pub not_plain : (g : Ground) → mode_of g ≡ mode.Factors → IsPlain g → ⊥
+not_plain (ground.Factors it) factors plain = plain
+not_plain (ground.Plain t) factors plain = absurd (cc factors)
 
 -- ── a board after a step ──
 
@@ -322,9 +324,14 @@ module _ {A : Type 0} (w : ℕ) (b : Board A) (before after : ℕ) where
   record_cause choice (fault.Stale n) h = absurd h
   record_cause choice (fault.Ended s) h = absurd h
 
-pub start_cause : (w : ℕ) (i : Instance) (before after : ℕ) (f : TableFault) → IsRunFault w i [] f → HasRisen before after f → IsStartCause w i before after (board_fault f)
-start_cause w i before after table.Memory run rose = tt
-start_cause w i before after (table.Overflow here) run rose = (run, rose)
+pub start_cause : (w : ℕ) (i : Instance) (before after : ℕ) (f : TableFault) → IsRunFault w i [] f → HasRisen before after f → OverflowsFor (StartsUnfit w i) f → IsStartCause w i before after (board_fault f)
+start_cause w i before after table.Memory run rose cause = tt
+start_cause w i before after (table.Overflow here) run rose cause = (run, rose, cause)
+
+-- without that cause it is want of memory
+pub start_memory : (w : ℕ) (i : Instance) (f : TableFault) → (StartsUnfit w i → ⊥) → OverflowsFor (StartsUnfit w i) f → board_fault f ≡ fault.Memory
+start_memory w i table.Memory fits cause = refl
+start_memory w i (table.Overflow here) fits cause = absurd (fits cause)
 
 -- the board of a ground at the start
 pub starts : {A : Type 0} (w : ℕ) (b : Board A) → b.log ≡ [] → b.course ≡ course.Running → b.epoch ≡ 0 → b.updates ≡ 0 → IsWellFormed b.inst.value → StartFits w b.inst.value

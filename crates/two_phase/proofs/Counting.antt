@@ -4,6 +4,7 @@ use Rattle.lp_model.specs.declared.Entry.{Entry}
 use Rattle.lp_model.specs.declared.Entry.TheVariants.{Flip, Swap, Turn}
 use Rattle.rational.specs.Rational.{ℚ}
 use Rattle.rational.specs.Worked.{bind, done, settle}
+use Rattle.rational.proofs.AnswerLaws.{answer-bind, answer-done}
 use Rattle.rational.proofs.Settling.{settle-answer}
 use Rattle.lp_run.specs.Instance.{Instance, row_count}
 use Rattle.lp_run.specs.Solution.{basis_entry}
@@ -13,7 +14,6 @@ use Rattle.factor_model.specs.Eta.{apply}
 use Rattle.factor_model.specs.Factoring.{Factored, factored, fresh, singular, whole}
 use Rattle.factor_model.specs.Factors.{Factors, most_updates, updated, with_update}
 use Rattle.factor_model.specs.Update.{update}
-use Rattle.factor_model.proofs.LineLaws.{answer-bind, answer-done}
 use Rattle.factor_run.specs.Built.{built, built_from, entering_column, followed, made_anew}
 use Rattle.factor_run.proofs.Building.{built-more}
 

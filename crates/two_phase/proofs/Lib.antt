@@ -16,3 +16,4 @@ pub mod Working
 pub mod Calms
 pub mod Tallies
 pub mod Spending
+pub mod UnfitStarts

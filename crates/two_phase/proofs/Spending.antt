@@ -12,7 +12,8 @@ use Rattle.two_phase.specs.Board.{AreCounts, OnFactors}
 use Rattle.two_phase.specs.Modes.{mode_of}
 use Rattle.two_phase.specs.Standing.{answer_of}
 use Rattle.two_phase.specs.Inner.Grounds.{HasCause, IsPlain}
-use Rattle.two_phase.specs.Inner.Works.{ground_updates, reached_work, recorded_work}
+use Rattle.two_phase.specs.Inner.Works.{ground_updates, reached_work}
+use Rattle.two_phase.specs.Works.{recorded_work}
 
 -- without a cause there are factors, whose updates are counted
 pub updates_there : (w : ℕ) (inst : Instance) (log : List Entry) (g : Ground) (updates epoch : ℕ) → OnFactors g (AreCounts updates epoch) → (HasCause w inst log g → ⊥) → ground_updates g ≡ updates

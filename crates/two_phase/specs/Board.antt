@@ -1,17 +1,19 @@
 -- The board of a run: what stands on it between any two calls, and what its calls answer.
-use Rattle.std.specs.Prelude.{◌≡◌, ◌≢◌, ℕ, ◌+◌, ◌<◌, ◌≤◌, ◌==◌, List, [], ◌∷◌, ◌++◌, length, Option, Some, None, true, false, if◌then◌else◌}
+use Rattle.std.specs.Prelude.{◌≡◌, ◌≢◌, ℕ, ◌+◌, ◌<◌, ◌≤◌, ◌==◌, List, [], ◌∷◌, ◌++◌, length, Some, true, false, if◌then◌else◌}
 use Rattle.lp_model.specs.declared.Entry.{Entry}
 use Rattle.lp_model.specs.declared.Entry.TheVariants.{Flip, Swap, Turn}
 use Rattle.lp_model.specs.declared.Place.{Place}
 use Rattle.lp_model.specs.Log.{moves}
 use Rattle.rational.specs.Rational.{ℚ}
+use Rattle.rational.specs.Sum.{at}
+use Rattle.rational.specs.Width.{fits_width}
 use Rattle.rational.specs.Worked.{settle}
 use Rattle.exact_frac.specs.Count.{raised}
 use Rattle.lp_run.specs.Instance.{Instance, IsWellFormed, row_count}
 use Rattle.lp_run.specs.Listing.{IsFirstTotal, IsFirstUnfit, StartFits}
 use Rattle.lp_run.specs.Run.{IsRun, IsSpent}
-use Rattle.lp_run.specs.Solution.{basis_entry}
-use Rattle.lp_run.specs.State.{State}
+use Rattle.lp_run.specs.Solution.{Values, basis_entry}
+use Rattle.lp_run.specs.State.{State, start_of}
 use Rattle.lp_run.specs.Step.{EndsFree, EndsInfeasible, EndsOptimal, IsNext}
 use Rattle.bland_ratio.specs.Pricing.{IsExactChoice}
 use Rattle.bland_ratio.specs.declared.tickets.Choice.{Choice}
@@ -31,8 +33,7 @@ use Rattle.two_phase.specs.declared.standing.Standing.{Standing}
 use Rattle.two_phase.specs.declared.standing.Standing.TheVariants as standing
 use Rattle.two_phase.specs.Inner.Grounds.{GroundStands, GroundStops, HasCause, ground_state}
 use Rattle.two_phase.specs.Modes.{mode_of}
-use Rattle.two_phase.specs.Standing.{course_after, standing_of}
-use Rattle.two_phase.specs.declared.reached.Reached.{Reached}
+use Rattle.two_phase.specs.Standing.{standing_of}
 
 -- ── what is seen of a board ──
 
@@ -59,29 +60,9 @@ IsStandingOf inst budget s standing.Infeasible = (y β : List ℚ) × EndsInfeas
 IsStandingOf inst budget s standing.Unbounded = (y β α : List ℚ) × (q : ℕ) × EndsFree inst s y β α q
 IsStandingOf inst budget s standing.Spent = IsSpent inst budget
 
--- what a step comes to is noted, with the counts of the factors where there are some
-abbrev pub noted_course : Option Reached → Course → Course
-noted_course None before = before
-noted_course (Some reached) before = course_after reached
-
-abbrev pub noted_epoch : Ground → ℕ → ℕ
-noted_epoch (ground.Factors it) before = it.factors.base
-noted_epoch (ground.Plain t) before = before
-
-abbrev pub noted_updates : Ground → ℕ → ℕ
-noted_updates (ground.Factors it) before = it.factors.updates
-noted_updates (ground.Plain t) before = before
-
 -- where there are factors before and after, they are the same
 abbrev pub KeepsFactors : Ground → Ground → Type 0
 KeepsFactors old new = OnFactors new (λ s f. OnFactors old (λ before g. f ≡ g))
-
--- why no board is made: an overflow has the place of the first value of the making that does not fit
-abbrev pub IsStartCause : ℕ → Instance → ℕ → ℕ → BoardFault → Type 0
-IsStartCause w inst before after fault.Memory = Unit {0}
-IsStartCause w inst before after (fault.Overflow here) = ((s : State) × IsRun inst [] s × IsFirstUnfit w inst [] s here) × (raised before 1 ≤ after)
-IsStartCause w inst before after (fault.Stale n) = ⊥
-IsStartCause w inst before after (fault.Ended s) = ⊥
 
 abbrev pub state_of : {A : Type 0} → Board A → State
 state_of b = ground_state b.ground
@@ -160,9 +141,6 @@ Records old new choice (recorded.Entry e) = IsNext old.inst.value (state_of old)
 Records old new choice recorded.Rescued = (choice.unfit ≡ true) × (mode_of old.ground ≡ mode.Factors) × (mode_of new.ground ≡ mode.Plain) × IsUnmoved old new
 Records old new choice (recorded.Ended s) = (s ≢ standing.Running) × (standing_on new ≡ s) × (new.log ≡ old.log) × KeepsCounts old new
 
-abbrev pub noted : {A : Type 0} → Option Reached → Board A → Board A
-noted gone b = record b { course = noted_course gone b.course; epoch = noted_epoch b.ground b.epoch; updates = noted_updates b.ground b.updates }
-
 -- the run has ended, within the budget
 abbrev pub HasEnded : {A : Type 0} → Board A → Type 0
 HasEnded b = (standing_on b ≢ standing.Running) × (standing_on b ≢ standing.Spent)
@@ -173,18 +151,22 @@ HasEnded b = (standing_on b ≢ standing.Running) × (standing_on b ≢ standing
 abbrev pub IsFirstOf : {A : Type 0} → ℕ → Board A → ℕ → ℕ → Place → Type 0
 IsFirstOf w b before after here = ((s : State) × IsRun b.inst.value b.log s × IsFirstUnfit w b.inst.value b.log s here) × (raised before 1 ≤ after)
 
+-- a basic value of the start does not fit the width
+abbrev pub StartsUnfit : ℕ → Instance → Type 0
+StartsUnfit w inst = (β : List ℚ) × (p : ℕ) × Values inst (start_of inst) β × (p < row_count inst) × (fits_width w (at β p) ≡ false)
+
+-- no board is made: an overflow comes for a basic value of the start, and has the place of the first value of the plain table's making that does not fit
+abbrev pub IsStartCause : ℕ → Instance → ℕ → ℕ → BoardFault → Type 0
+IsStartCause w inst before after fault.Memory = Unit {0}
+IsStartCause w inst before after (fault.Overflow here) = ((s : State) × IsRun inst [] s × IsFirstUnfit w inst [] s here) × (raised before 1 ≤ after) × StartsUnfit w inst
+IsStartCause w inst before after (fault.Stale n) = ⊥
+IsStartCause w inst before after (fault.Ended s) = ⊥
+
 abbrev pub IsTicketCause : {A : Type 0} → ℕ → Board A → ℕ → ℕ → BoardFault → Type 0
 IsTicketCause w b before after fault.Memory = Unit {0}
 IsTicketCause w b before after (fault.Overflow here) = IsFirstOf w b before after here × HasCause w b.inst.value b.log b.ground
 IsTicketCause w b before after (fault.Stale n) = ⊥
 IsTicketCause w b before after (fault.Ended s) = (s ≡ standing_on b) × (s ≢ standing.Running)
-
--- of a choice of the board's own state
-abbrev pub IsTakingCause : {A : Type 0} → ℕ → Board A → Choice → ℕ → ℕ → BoardFault → Type 0
-IsTakingCause w b choice before after fault.Memory = Unit {0}
-IsTakingCause w b choice before after (fault.Overflow here) = IsFirstOf w b before after here × (choice.unfit ≡ false → HasCause w b.inst.value b.log b.ground)
-IsTakingCause w b choice before after (fault.Stale n) = ⊥
-IsTakingCause w b choice before after (fault.Ended s) = ⊥
 
 abbrev pub IsRecordCause : {A : Type 0} → ℕ → Board A → Choice → ℕ → ℕ → BoardFault → Type 0
 IsRecordCause w b choice before after fault.Memory = Unit {0}

@@ -5,5 +5,6 @@ pub mod Grounds
 pub mod Iterates
 pub mod Plains
 pub mod Reaching
+pub mod Recording
 pub mod Refusals
 pub mod Works

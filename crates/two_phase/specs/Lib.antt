@@ -3,3 +3,4 @@ pub mod Inner
 pub mod Modes
 pub mod Standing
 pub mod Tally
+pub mod Works

@@ -7,7 +7,9 @@ use Rattle.factor_run.specs.Bound.{making_work, round_work}
 use Rattle.two_phase.specs.declared.board.Board.{Board}
 use Rattle.two_phase.specs.declared.standing.Recorded.{Recorded}
 use Rattle.two_phase.specs.declared.standing.Recorded.TheVariants as recorded
+use Rattle.two_phase.specs.declared.standing.Mode.TheVariants as mode
 use Rattle.two_phase.specs.Inner.Grounds.{IsPlain}
+use Rattle.two_phase.specs.Modes.{mode_of}
 
 -- these products and quotients are of so many rounds along the log, and of a factorisation after each 64 updates; so many updates have come since the last
 pub record IsTally (inst : Instance) (log : List Entry) (rounds updates spent : ℕ) : Type 0 where
@@ -21,7 +23,7 @@ HasWorked inst log rounds updates before now = (spent : ℕ) × IsTally inst log
 
 -- the board is at the start of its run, with factors
 pub record IsFresh {A : Type 0} (b : Board A) : Type 0 where
-  pub factors : IsPlain b.ground → ⊥
+  pub factors : mode_of b.ground ≡ mode.Factors
   pub log : b.log ≡ []
   pub updates : b.updates ≡ 0
 

@@ -6,6 +6,8 @@ ghost use Rattle.lp_model.specs.declared.Entry.{Entry as LogEntry};
 ghost use Rattle.bland_ratio.specs.Entries.{stored_entries};
 ghost use Rattle.bland_ratio.specs.Pricing.{IsExactTicket};
 ghost use Rattle.factor_run.specs.Bound.{making_work};
+ghost use Rattle.two_phase.specs.Board.{StartsUnfit};
+ghost use Rattle.two_phase.specs.Inner.Plains.{HasRisen, IsRunFault};
 
 use crate::ground::Ground;
 use crate::iterate::Iterate;
@@ -22,10 +24,10 @@ use std::thread::Threads;
 
 impl Ground {
     ghost use Rattle.two_phase.specs.Inner.Grounds.{GivesUp, GroundStands, HasCause, IsPlain, ground_state};
-    ghost use Rattle.two_phase.specs.Inner.Reaching.{IsUnstarted};
-    ghost use Rattle.two_phase.specs.Inner.Works.{ground_owed};
+    ghost use Rattle.two_phase.specs.Works.{ground_owed};
     ghost use Rattle.two_phase.specs.Modes.{IsPaidBy, mode_of};
-    ghost use Rattle.two_phase.specs.Inner.Plains.{HasRisen, IsRunFault, OverflowsFor};
+    ghost use Rattle.two_phase.specs.Inner.Plains.{OverflowsFor};
+    ghost use Rattle.two_phase.specs.declared.standing.Mode.{Mode};
 
     // The ticket of a state over factors, where there are; none where a price does not fit.
     fn ask_factors<A: Arith>(
@@ -118,11 +120,12 @@ impl Ground {
         Ok(self.ask_table(alloc, inst)?)
     }
 
-    /// The ground of the start: factors, or where a value that is worked for them does not fit the plain table.
+    /// The ground of the start: factors of its basis.
     ///
     /// # Errors
     ///
-    /// `Overflow` with the place of the first value of the making that does not fit the width, `Memory` for want of memory.
+    /// Where a basic value does not fit the width, `Overflow` with the place of the first value of the plain table's making
+    /// that does not; `Memory` for want of memory.
     pub fn start<A: Arith>(
         alloc: Global,
         inst: &Instance,
@@ -131,22 +134,37 @@ impl Ground {
         requires well_formed { IsWellFormed inst.now }
         requires fits { StartFits (A.width arith.old) inst.now }
         ensures stands { IfOk result (GroundStands (A.width arith.old) inst.now []) }
+        ensures factors { IfOk result (λ begun. mode_of begun ≡ Mode.Factors) }
+        ensures fits { IfOk result (λ _. A.unfit_count arith.new ≡ A.unfit_count arith.old) }
+        ensures work { IfOk result (λ _. A.work_count arith.new ≤ A.work_count arith.old + (stored_entries inst.now + making_work inst.now)) }
         ensures fault { IfErr result (IsRunFault (A.width arith.old) inst.now []) }
+        ensures cause { IfErr result (OverflowsFor (StartsUnfit (A.width arith.old) inst.now)) }
+        ensures fitted { (StartsUnfit (A.width arith.old) inst.now → ⊥) → A.unfit_count arith.new ≡ A.unfit_count arith.old }
         ensures width { A.width arith.new ≡ A.width arith.old }
         ensures unfit { A.unfit_count arith.old ≤ A.unfit_count arith.new }
-        ensures factors { (IsUnstarted (A.width arith.old) inst.now → ⊥) → IfOk result (λ begun. IsPlain begun → ⊥) }
-        ensures memory { (IsUnstarted (A.width arith.old) inst.now → ⊥) → IfErr result (λ fault. fault ≡ TableFault.Memory) }
-        ensures fits { (IsUnstarted (A.width arith.old) inst.now → ⊥) → A.unfit_count arith.new ≡ A.unfit_count arith.old }
-        ensures work { (IsUnstarted (A.width arith.old) inst.now → ⊥) → A.work_count arith.new ≤ A.work_count arith.old + (stored_entries inst.now + making_work inst.now) }
         ensures rose { IfErr result (HasRisen (A.unfit_count arith.old) (A.unfit_count arith.new)) }
     {
         match Iterate::start(alloc, inst, arith) {
             Ok(iterate) => Ok(Ground::Factors(iterate)),
             Err(Refusal::Memory) => Err(TableFault::Memory),
-            Err(Refusal::Unfit) => match Table::start(alloc, inst, arith) {
-                Ok(table) => Ok(Ground::Plain(table)),
-                Err(fault) => Err(fault),
-            },
+            Err(Refusal::Unfit) => Err(unfit_start(alloc, inst, arith)),
         }
+    }
+}
+
+// Why no run starts where a basic value does not fit: the place of the first value of the plain table's making that does
+// not, for the making works that value too.
+fn unfit_start<A: Arith>(alloc: Global, inst: &Instance, arith: &mut A) -> TableFault
+    requires well_formed { IsWellFormed inst.now }
+    requires fits { StartFits (A.width arith.old) inst.now }
+    requires unfit { StartsUnfit (A.width arith.old) inst.now }
+    ensures fault { IsRunFault (A.width arith.old) inst.now [] result }
+    ensures width { A.width arith.new ≡ A.width arith.old }
+    ensures unfit { A.unfit_count arith.old ≤ A.unfit_count arith.new }
+    ensures rose { HasRisen (A.unfit_count arith.old) (A.unfit_count arith.new) result }
+{
+    match Table::start(alloc, inst, arith) {
+        Ok(_) => unreachable!(),
+        Err(fault) => fault,
     }
 }

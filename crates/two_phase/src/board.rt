@@ -6,19 +6,20 @@ ghost use Rattle.lp_run.specs.Ends.{HasOutcome, Yields};
 ghost use Rattle.lp_run.specs.Instance.{IsWellFormed};
 ghost use Rattle.lp_run.specs.Instance.{row_count};
 ghost use Rattle.lp_run.specs.Listing.{StartFits};
-ghost use Rattle.bland_ratio.specs.Entries.{stored_entries};
+ghost use Rattle.bland_ratio.specs.Entries.{nonzero_costs, stored_entries};
 ghost use Rattle.factor_run.specs.Bound.{making_work};
 ghost use Rattle.factor_run.specs.Calm.{IsCalm};
-ghost use Rattle.two_phase.specs.Inner.Grounds.{IsPlain};
-ghost use Rattle.two_phase.specs.Inner.Works.{ground_owed, move_work, recorded_work};
+ghost use Rattle.two_phase.specs.Works.{ground_owed, move_work, recorded_work};
 ghost use Rattle.lp_run.specs.Run.{IsRun};
 ghost use Rattle.bland_ratio.specs.Pricing.{IsExactChoice, IsExactTicket};
-ghost use Rattle.run_outcome.specs.Endings.{IsOutcomeCause, cost_count, count_after};
-ghost use Rattle.two_phase.specs.Board.{AreBuilt, BoardStands, HasFactors, HasGivenUp, HasNoCause, IsChoiceFor, HasEnded, IsClosingCause, IsRecordCause, IsSameRun, IsStandingOf, IsStartCause, IsTakingCause, IsTicketCause, IsUnmoved, Records, noted, standing_on, state_of};
+ghost use Rattle.run_outcome.specs.Endings.{IsOutcomeCause, count_after};
+ghost use Rattle.two_phase.specs.Board.{AreBuilt, BoardStands, HasFactors, HasGivenUp, HasNoCause, IsChoiceFor, HasEnded, IsClosingCause, IsRecordCause, IsSameRun, IsStandingOf, IsStartCause, IsTicketCause, IsUnmoved, Records, standing_on, state_of};
+ghost use Rattle.two_phase.specs.Inner.Recording.{IsTakingCause, noted};
 ghost use Rattle.two_phase.specs.Inner.Grounds.{GroundStands};
 ghost use Rattle.two_phase.specs.Modes.{IsPaidBy, mode_of};
 ghost use Rattle.two_phase.specs.declared.standing.BoardFault.{BoardFault};
 ghost use Rattle.two_phase.specs.declared.standing.Course.{Course};
+ghost use Rattle.two_phase.specs.declared.standing.Mode.{Mode};
 ghost use Rattle.two_phase.specs.declared.standing.Standing.{Standing};
 
 use crate::ground::Ground;
@@ -81,12 +82,12 @@ pub struct CloseFault<A: Arith> {
 }
 
 impl<A: Arith> Board<A> {
-    /// The board at the start of a run, with factors of the start's basis; where a value that is worked for them does not
-    /// fit the width, with the plain table.
+    /// The board at the start of a run, with factors of the start's basis, for which no value is worked.
     ///
     /// # Errors
     ///
-    /// `Overflow` with the place of the first value of the making that does not fit the width, `Memory` for want of memory.
+    /// Where a basic value of the start does not fit the width, `Overflow` with the place of the first value of the plain
+    /// table's making that does not; `Memory` for want of memory. The arithmetic comes back.
     pub fn new(
         alloc: Global,
         inst: Arc<Instance>,
@@ -97,11 +98,10 @@ impl<A: Arith> Board<A> {
         ensures stands { IfOk result (λ board. BoardStands (A.width arith) board) }
         ensures start { IfOk result (λ board. (board.inst ≡ inst) × (board.budget ≡ budget) × (board.log ≡ []) × (standing_on board ≡ Standing.Running) × (board.epoch ≡ 0) × (board.updates ≡ 0)) }
         ensures width { IfOk result (λ board. A.width board.arith ≡ A.width arith) }
-        ensures unfit { IfOk result (λ board. A.unfit_count arith ≤ A.unfit_count board.arith) }
+        ensures factors { IfOk result (λ board. mode_of board.ground ≡ Mode.Factors) }
         ensures built { IfOk result (AreBuilt (A.width arith)) }
-        ensures factors { IsCalm (A.width arith) inst.value → IfOk result (λ board. IsPlain board.ground → ⊥) }
-        ensures fits { IsCalm (A.width arith) inst.value → IfOk result (λ board. A.unfit_count board.arith ≡ A.unfit_count arith) }
-        ensures work { IsCalm (A.width arith) inst.value → IfOk result (λ board. A.work_count board.arith ≤ A.work_count arith + (stored_entries inst.value + making_work inst.value)) }
+        ensures fits { IfOk result (λ board. A.unfit_count board.arith ≡ A.unfit_count arith) }
+        ensures work { IfOk result (λ board. A.work_count board.arith ≤ A.work_count arith + (stored_entries inst.value + making_work inst.value)) }
         ensures refused { IsCalm (A.width arith) inst.value → IfErr result (λ refused. (refused.fault ≡ BoardFault.Memory) × (A.unfit_count refused.arith ≡ A.unfit_count arith)) }
         ensures fault { IfErr result (λ refused. IsStartCause (A.width arith) inst.value (A.unfit_count arith) (A.unfit_count refused.arith) refused.fault) }
         ensures handed_back { IfErr result (λ refused. (A.width refused.arith ≡ A.width arith) × (A.unfit_count arith ≤ A.unfit_count refused.arith)) }
@@ -263,7 +263,7 @@ impl<A: Arith> Board<A> {
         ensures kept { self.new ≡ record self.old { arith = self.new.arith } }
         ensures width { A.width self.new.arith ≡ A.width self.old.arith }
         ensures unfit { A.unfit_count self.new.arith ≡ count_after (A.unfit_count self.old.arith) result }
-        ensures work { A.work_count self.new.arith ≤ A.work_count self.old.arith + cost_count self.old.inst.value }
+        ensures work { A.work_count self.new.arith ≤ A.work_count self.old.arith + nonzero_costs self.old.inst.value }
     {
         show(
             alloc,
@@ -290,7 +290,7 @@ impl<A: Arith> Board<A> {
         ensures fault { IfErr result (λ refused. IsClosingCause (A.width self.arith) self (A.unfit_count self.arith) (A.unfit_count refused.board.arith) refused.fault) }
         ensures kept { IfErr result (λ refused. refused.board ≡ record self { arith = refused.board.arith }) }
         ensures width { IfErr result (λ refused. (A.width refused.board.arith ≡ A.width self.arith) × (A.unfit_count self.arith ≤ A.unfit_count refused.board.arith)) }
-        ensures work { IfOk result (λ closed. A.work_count closed.1 ≤ A.work_count self.arith + cost_count self.inst.value) }
+        ensures work { IfOk result (λ closed. A.work_count closed.1 ≤ A.work_count self.arith + nonzero_costs self.inst.value) }
         ensures fits { IfErr result (λ refused. refused.fault ≡ BoardFault.Memory → A.unfit_count refused.board.arith ≡ A.unfit_count self.arith) }
     {
         let mut board = self;
@@ -413,10 +413,10 @@ fn begin<A: Arith>(alloc: Global, inst: &Instance, arith: &mut A) -> Result<Grou
     ensures fault { IfErr result (IsStartCause (A.width arith.old) inst.now (A.unfit_count arith.old) (A.unfit_count arith.new)) }
     ensures width { A.width arith.new ≡ A.width arith.old }
     ensures unfit { A.unfit_count arith.old ≤ A.unfit_count arith.new }
-    ensures factors { IsCalm (A.width arith.old) inst.now → IfOk result (λ begun. IsPlain begun → ⊥) }
-    ensures memory { IsCalm (A.width arith.old) inst.now → IfErr result (λ fault. fault ≡ BoardFault.Memory) }
-    ensures fits { IsCalm (A.width arith.old) inst.now → A.unfit_count arith.new ≡ A.unfit_count arith.old }
-    ensures work { IsCalm (A.width arith.old) inst.now → A.work_count arith.new ≤ A.work_count arith.old + (stored_entries inst.now + making_work inst.now) }
+    ensures factors { IfOk result (λ begun. mode_of begun ≡ Mode.Factors) }
+    ensures fits { IfOk result (λ _. A.unfit_count arith.new ≡ A.unfit_count arith.old) }
+    ensures work { IfOk result (λ _. A.work_count arith.new ≤ A.work_count arith.old + (stored_entries inst.now + making_work inst.now)) }
+    ensures refused { IsCalm (A.width arith.old) inst.now → IfErr result (λ fault. (fault ≡ BoardFault.Memory) × (A.unfit_count arith.new ≡ A.unfit_count arith.old)) }
 {
     let _rows = inst.rows();
     match Ground::start(alloc, inst, arith) {

@@ -15,10 +15,11 @@ ghost use Rattle.factor_model.specs.Update.{HasPivot, with_column};
 ghost use Rattle.factor_model.specs.Vectors.{vector};
 ghost use Rattle.factor_run.specs.Built.{entering_column, exchanged, made_anew};
 ghost use Rattle.ftran_btran.specs.Kept.{size};
-ghost use Rattle.two_phase.specs.Inner.Factoring.{FactorsFrom, IsBasis, follow_work, sparse_column};
+ghost use Rattle.two_phase.specs.Inner.Factoring.{FactorsFrom, IsBasis, sparse_column};
+ghost use Rattle.two_phase.specs.Works.{follow_work};
 ghost use Rattle.two_phase.specs.Inner.Refusals.{Explains, count_after};
 
-use crate::columns::column_of;
+use crate::columns::{column_of, owned};
 use crate::refusal::Refusal;
 use exact_frac::{Arith, Frac};
 use ft_update::UpdateFault;
@@ -66,7 +67,8 @@ fn basis_columns(
 {
     let mut columns = Vec::with_capacity(alloc, basis.len())?;
     for q in basis {
-        columns.push(column_of(alloc, inst, *q as usize)?)?;
+        let column = column_of(alloc, inst, *q as usize)?;
+        columns.push(owned(column)?)?;
     }
     Ok(columns)
 }

@@ -32,7 +32,8 @@ impl Ground {
     ghost use Rattle.two_phase.specs.Inner.Grounds.{GivesUp, GroundReaches, GroundRescues, GroundStands, HasCause, IsPlain, ground_state};
     ghost use Rattle.two_phase.specs.Inner.Plains.{HasRisen, IsRunFault, OverflowsFor};
     ghost use Rattle.two_phase.specs.Inner.Reaching.{IsChosen};
-    ghost use Rattle.two_phase.specs.Inner.Works.{ground_owed, ground_updates, move_work, reached_work};
+    ghost use Rattle.two_phase.specs.Works.{ground_owed, move_work};
+    ghost use Rattle.two_phase.specs.Inner.Works.{ground_updates, reached_work};
 
     // Goes on over the factors, where there are; none where they meet a value that does not fit.
     fn over_factors<A: Arith>(

@@ -14,7 +14,6 @@ ghost use Rattle.lp_run.specs.Listing.{StartFits, first_unfit};
 ghost use Rattle.lp_model.specs.declared.Side.{Side as End};
 ghost use Rattle.lp_run.specs.Solution.{Values, basis_entry};
 ghost use Rattle.lp_run.specs.State.{after, rest, start_of};
-ghost use Rattle.plain_table.specs.Inner.Starts.{start_values_listing};
 ghost use Rattle.plain_table.specs.Inner.Values.{values_listing};
 ghost use Rattle.lp_model.specs.Log.{moves};
 ghost use Rattle.lp_run.specs.Instance.{Instance as Equations, IsWellFormed, column_count, row_count};
@@ -23,10 +22,12 @@ ghost use Rattle.factor_model.specs.Eta.{apply, stored};
 ghost use Rattle.factor_model.specs.Factors.{AreFactors};
 ghost use Rattle.factor_model.specs.Update.{HasPivot};
 ghost use Rattle.factor_run.specs.Built.{entering_column, exchanged};
-ghost use Rattle.two_phase.specs.Inner.Factoring.{IsBasis, follow_work};
+ghost use Rattle.two_phase.specs.Inner.Factoring.{IsBasis};
+ghost use Rattle.two_phase.specs.Works.{follow_work};
 ghost use Rattle.factor_model.specs.Factors as model;
 ghost use Rattle.factor_run.specs.Calm.{basic_costs};
 ghost use Rattle.factor_run.specs.Causes.{Cause};
+ghost use Rattle.two_phase.specs.Board.{StartsUnfit};
 ghost use Rattle.two_phase.specs.Inner.Refusals.{Explains, count_after};
 
 use crate::decision::{Decision, decide};
@@ -38,10 +39,10 @@ use bland_ratio::Leave;
 use deck_model::Log;
 use exact_frac::{Arith, Frac, Unfit};
 use ftran_btran::Factors;
-use instance_model::{Instance, State};
+use instance_model::{Instance, State, rest_of};
 use lp_model::{Entry, Phase, Side};
 use no_memory::Memory;
-use plain_table::{artificials_are_zero, move_values, rest_of, work_start_values};
+use plain_table::{artificials_are_zero, move_values, work_start_values};
 use run_outcome::Stop;
 use std::alloc::{AllocError, Global};
 
@@ -62,8 +63,9 @@ pub struct Iterate {
 
 impl Iterate {
     ghost use Rattle.two_phase.specs.Inner.Iterates.{AreWorked, HasFollowed, IsEntered, IsIterate, IsIterateOf, IsKept, IsSpared, IsTaken};
-    ghost use Rattle.two_phase.specs.Inner.Reaching.{IsChosen, IsUnstarted, Reaches};
-    ghost use Rattle.two_phase.specs.Inner.Works.{move_work, owed, reached_work, solve_most};
+    ghost use Rattle.two_phase.specs.Inner.Reaching.{IsChosen, Reaches};
+    ghost use Rattle.two_phase.specs.Works.{move_work, owed, solve_most};
+    ghost use Rattle.two_phase.specs.Inner.Works.{reached_work};
 
     /// Works the prices, where they are not yet worked.
     pub fn price<A: Arith>(&mut self, inst: &Instance, arith: &mut A) -> Result<(), Unfit>
@@ -503,8 +505,7 @@ impl Iterate {
     ///
     /// # Errors
     ///
-    /// `Unfit` where a basic value does not fit the width, or a value that is worked for the factors; `Memory` for want
-    /// of memory.
+    /// `Unfit` where a basic value does not fit the width; `Memory` for want of memory. For the factors no value is worked.
     pub fn start<A: Arith>(
         alloc: Global,
         inst: &Instance,
@@ -512,7 +513,7 @@ impl Iterate {
     ) -> Result<Iterate, Refusal>
         requires { StartFits (A.width arith.old) inst.now }
         ensures stands { IfOk result (IsIterate (A.width arith.old) inst.now []) }
-        ensures refusal { IfErr result (Explains (IsUnstarted (A.width arith.old) inst.now)) }
+        ensures refusal { IfErr result (Explains (StartsUnfit (A.width arith.old) inst.now)) }
         ensures width { A.width arith.new ≡ A.width arith.old }
         ensures unfit { A.unfit_count arith.new ≡ count_after (A.unfit_count arith.old) result }
         ensures work { A.work_count arith.new ≤ A.work_count arith.old + (stored_entries inst.now + making_work inst.now) }
@@ -569,7 +570,7 @@ fn start_values<A: Arith>(
 ) -> Result<Vec<Frac>, Refusal>
     requires { StartFits (A.width arith.old) inst.now }
     ensures values { IfOk result (λ values. Values inst.now (start_of inst.now) values.items) }
-    ensures refusal { IfErr result (Explains ((here : Place) × (first_unfit (A.width arith.old) (start_values_listing inst.now) ≡ Some here))) }
+    ensures refusal { IfErr result (Explains (StartsUnfit (A.width arith.old) inst.now)) }
     ensures width { A.width arith.new ≡ A.width arith.old }
     ensures unfit { A.unfit_count arith.new ≡ count_after (A.unfit_count arith.old) result }
     ensures work { A.work_count arith.new ≤ A.work_count arith.old + stored_entries inst.now }

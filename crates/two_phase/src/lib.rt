@@ -7,7 +7,8 @@
 //! state's. `HasFactors` says what the factors are: of the state's basis, with at most 64 updates since a number not above
 //! the board's; `AreBuilt` that they are the ones built along the log.
 //!
-//! **Contract.** [`Board::new`] makes the board of the start. [`Board::ticket`] asks for a choice at its state, with its
+//! **Contract.** [`Board::new`] makes the board of the start, with factors of its basis, for which no value is worked; it is
+//! refused for a basic value that does not fit (`IsStartCause`). [`Board::ticket`] asks for a choice at its state, with its
 //! prices or its reduced costs, and is exact for it; [`Board::record`] takes in what follows from an exact choice
 //! (`Records`): the next entry, or the end; a swap after 64 updates makes the factors anew (`FollowsEntry`).
 //! [`Board::close`] gives the outcome of a run that has ended, with the log. Factors are given up for a cause alone

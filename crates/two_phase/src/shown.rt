@@ -1,11 +1,12 @@
 //! The outcome that the end of a run shows, over factors or over the plain table.
 ghost use Rattle.std.specs.Prelude.{◌≡◌, ◌+◌, ◌<◌, ◌≤◌, ℕ, List, length, IfErr, IfOk};
+ghost use Rattle.bland_ratio.specs.Entries.{nonzero_costs};
 ghost use Rattle.deck_model.specs.Outcome.{outcome_of};
 ghost use Rattle.lp_model.specs.declared.Entry.{Entry};
 ghost use Rattle.lp_run.specs.Ends.{Yields};
 ghost use Rattle.lp_run.specs.Instance.{IsWellFormed, column_count};
 ghost use Rattle.plain_table.specs.Next.{IsTableOf, column as column_of, prices as prices_of};
-ghost use Rattle.run_outcome.specs.Endings.{IsOutcomeCause, cost_count, count_after};
+ghost use Rattle.run_outcome.specs.Endings.{IsOutcomeCause, count_after};
 ghost use Rattle.two_phase.specs.Inner.Grounds.{GroundStands, GroundStops, ground_state};
 ghost use Rattle.two_phase.specs.Inner.Iterates.{IsIterate};
 ghost use Rattle.two_phase.specs.Inner.Plains.{IsFitted, TableStops, free_column};
@@ -36,7 +37,7 @@ pub fn show<A: Arith>(
     ensures fault { IfErr result (λ fault. (log : List Entry) → length log ≡ number → IsOutcomeCause (A.width arith.old) inst.now log (ground_state ground.now) fault) }
     ensures width { A.width arith.new ≡ A.width arith.old }
     ensures unfit { A.unfit_count arith.new ≡ count_after (A.unfit_count arith.old) result }
-    ensures work { A.work_count arith.new ≤ A.work_count arith.old + cost_count inst.now }
+    ensures work { A.work_count arith.new ≤ A.work_count arith.old + nonzero_costs inst.now }
 {
     match ground {
         Ground::Factors(iterate) => show_iterate(alloc, inst, number, iterate, stop, arith),
@@ -60,7 +61,7 @@ fn show_iterate<A: Arith>(
     ensures fault { IfErr result (λ fault. (log : List Entry) → length log ≡ number → IsOutcomeCause (A.width arith.old) inst.now log iterate.now.state fault) }
     ensures width { A.width arith.new ≡ A.width arith.old }
     ensures unfit { A.unfit_count arith.new ≡ count_after (A.unfit_count arith.old) result }
-    ensures work { A.work_count arith.new ≤ A.work_count arith.old + cost_count inst.now }
+    ensures work { A.work_count arith.new ≤ A.work_count arith.old + nonzero_costs inst.now }
 {
     let ending = Ending {
         number,
@@ -88,7 +89,7 @@ fn show_table<A: Arith>(
     ensures fault { IfErr result (λ fault. (log : List Entry) → length log ≡ number → IsOutcomeCause (A.width arith.old) inst.now log table.now.state fault) }
     ensures width { A.width arith.new ≡ A.width arith.old }
     ensures unfit { A.unfit_count arith.new ≡ count_after (A.unfit_count arith.old) result }
-    ensures work { A.work_count arith.new ≤ A.work_count arith.old + cost_count inst.now }
+    ensures work { A.work_count arith.new ≤ A.work_count arith.old + nonzero_costs inst.now }
 {
     let prices = prices(alloc, inst, table)?;
     let alpha = column(alloc, inst, table, free_column(stop) as usize)?;

@@ -72,5 +72,5 @@ pub fn solve_column<A: Arith>(
     ensures work { A.work_count arith.new ≤ A.work_count arith.old + (stored factors.now.etas + (row_count inst.now * row_count inst.now + row_count inst.now)) }
 {
     let column = column_of(alloc, inst, q)?;
-    Ok(factors.ftran(&column, spike, alpha, arith)?)
+    Ok(factors.ftran(column.as_ref(), spike, alpha, arith)?)
 }

@@ -11,7 +11,7 @@ ghost use Rattle.factor_run.specs.Calm.{basic_costs};
 ghost use Rattle.plain_table.specs.Next.{IsTableOf};
 ghost use Rattle.two_phase.specs.Inner.Iterates.{IsIterate, IsIterateOf, IsKept};
 ghost use Rattle.two_phase.specs.Inner.Refusals.{Explains, count_after};
-ghost use Rattle.two_phase.specs.Inner.Works.{owed};
+ghost use Rattle.two_phase.specs.Works.{owed};
 
 use crate::iterate::Iterate;
 use crate::refusal::Refusal;

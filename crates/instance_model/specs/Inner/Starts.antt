@@ -1,5 +1,5 @@
 -- What the start sums of a row list and what becomes of them, part by part.
-use Rattle.std.specs.Prelude.{◌≡◌, ℕ, Bool, List, map, not, sum_by, Option, Some, None, Result, Ok, Err, if◌then◌else◌}
+use Rattle.std.specs.Prelude.{◌≡◌, ℕ, Bool, List, map, not, sum_by, Option, Some, None, Result, Ok, Err}
 use Rattle.std.specs.List.{filter}
 use Rattle.std.specs.Option.{option_map}
 use Rattle.std.specs.declared.cmp.Ordering.TheVariants.{Less, Equal, Greater}
@@ -9,7 +9,7 @@ use Rattle.lp_model.specs.declared.RowKind.{RowKind}
 use Rattle.lp_model.specs.declared.RowKind.TheVariants.{L, G, E}
 use Rattle.lp_model.specs.declared.Side.{Side}
 use Rattle.lp_model.specs.Deck.{Column, Deck, Interval, row}
-use Rattle.rational.specs.Rational.{ℚ, zero_ℚ, ◌-ℚ◌, neg_ℚ, abs_ℚ, cmp_ℚ, eq_ℚ}
+use Rattle.rational.specs.Rational.{ℚ, zero_ℚ, ◌-ℚ◌, neg_ℚ, abs_ℚ, cmp_ℚ, eq_ℚ, one_unless_zero}
 use Rattle.rational.specs.Sparse.{entry_at, upto}
 use Rattle.lp_run.specs.Instance.{Instance, equations_of, passed_end, range_sum, row_passes, start_value, structural, structural_count}
 use Rattle.lp_run.specs.Listing.{AllFit, Listed, Term, first_unfit, listed_at, place, taken}
@@ -38,13 +38,9 @@ starts_off inst j = not (eq_ℚ (start_value (structural inst j).bounds) zero_�
 abbrev pub off_zero : Instance → List ℕ
 off_zero inst = filter (starts_off inst) (upto (structural_count inst))
 
--- how many products an entry takes: none where it is 0
-abbrev pub one_product : ℚ → ℕ
-one_product entry = if eq_ℚ entry zero_ℚ then 0 else 1
-
 -- how many products the residual of row i takes at most
 abbrev pub row_products : Instance → ℕ → ℕ
-row_products inst i = sum_by (λ j. one_product (entry_at (structural inst j).entries i)) (off_zero inst)
+row_products inst i = sum_by (λ j. one_unless_zero (entry_at (structural inst j).entries i)) (off_zero inst)
 
 -- how far a number passes an end of an interval, in row i
 abbrev pub excess_listing : ℕ → Interval → ℚ → List Listed

@@ -1,14 +1,12 @@
 -- What is listed where the rows of a table are worked, and what becomes of them.
-use Rattle.std.specs.Prelude.{◌≡◌, ◌≢◌, ℕ, ◌+◌, ◌^◌, ◌<◌, ◌≤◌, List, [], length, get_or, Some, None, Bool, true, false, ◌||◌, ◌==◌, if◌then◌else◌, Result, OnOk}
+use Rattle.std.specs.Prelude.{◌≡◌, ◌≢◌, ℕ, ◌+◌, ◌<◌, List, [], length, get_or, Some, None, Bool, true, false, ◌||◌, ◌==◌, if◌then◌else◌}
 use Rattle.std.specs.List.{flat_map}
 use Rattle.lp_model.specs.declared.Kind.TheVariants as kind
-use Rattle.lp_model.specs.declared.Place.{Place}
 use Rattle.rational.specs.Rational.{ℚ, zero_ℚ, ◌-ℚ◌, ◌*ℚ◌, eq_ℚ}
 use Rattle.rational.specs.Sparse.{upto}
 use Rattle.rational.specs.Sum.{at}
-use Rattle.lp_run.specs.Listing.{Listed, place, Judges}
-use Rattle.exact_frac.specs.Count.{unfit_after}
-use Rattle.plain_table.specs.Inner.Lines.{IsSupport, IsUnpacked, less_listing}
+use Rattle.lp_run.specs.Listing.{Listed, place}
+use Rattle.plain_table.specs.Inner.Lines.{IsUnpacked, less_listing}
 
 -- what a row lists where column q is taken out of it by the pivot row, which is not its own: nothing where it has no entry there
 abbrev pub row_listing : ℕ → Bool → ℕ → ℕ → List ℚ → List ℚ → List Listed
@@ -42,22 +40,3 @@ AreEliminated p base q by columns rows out = (i : ℕ) → i < length rows → E
 -- all rows have so many columns
 abbrev pub AreWide : ℕ → List (List ℚ) → Type 0
 AreWide width rows = (k : ℕ) → k < length rows → length (get_or rows k []) ≡ width
-
--- rows can be worked into spare ones by a line, whose numbers that are not 0 stand in these columns; the first of the rows stands in position `base`
-pub record CanWorkRows (base q : ℕ) (by : List ℚ) (columns : List ℕ) (rows out : List (List ℚ)) : Type 0 where
-  pub count : length out ≡ length rows
-  pub wide : AreWide (length by) rows
-  pub spare : AreWide (length by) out
-  pub column : q < length by
-  pub few_columns : length by < 2 ^ 32
-  pub support : IsSupport by columns
-  pub within : length columns ≤ length by
-  pub few_rows : length rows + base < 2 ^ 32
-
--- rows are worked one after another, with the counts of an arithmetic before and after
-pub record WorksRows (w w' unfit unfit' k p base q : ℕ) (by : List ℚ) (columns : List ℕ) (rows out : List (List ℚ)) (result : Result (Unit {0}) Place) : Type 0 where
-  pub answer : Judges w (rows_listing k p base q by rows) result
-  pub eliminated : OnOk result (AreEliminated p base q by columns rows out)
-  pub spare : AreWide (length by) out
-  pub width : w' ≡ w
-  pub unfits : unfit' ≡ unfit_after unfit result

@@ -1,7 +1,7 @@
 -- What is listed where the first table is made, and what its rows are.
 use Rattle.std.specs.Prelude.{◌≡◌, ℕ, ◌<◌, List, [], map, get_or, ◌+◌, Some, None, if◌then◌else◌, sum_by}
 use Rattle.lp_model.specs.declared.Kind.TheVariants as kind
-use Rattle.rational.specs.Rational.{ℚ, zero_ℚ, one_ℚ, eq_ℚ, ◌-ℚ◌, ◌*ℚ◌}
+use Rattle.rational.specs.Rational.{ℚ, one_ℚ, one_unless_zero, ◌-ℚ◌, ◌*ℚ◌}
 use Rattle.rational.specs.Sparse.{entry_at, upto}
 use Rattle.rational.specs.Sum.{at}
 use Rattle.rational.specs.Worked.{Worked}
@@ -35,10 +35,6 @@ basic_start inst i = (if is_needed inst i then sign_past (passed_side inst i) el
 
 abbrev pub start_values_listing : Instance → List Listed
 start_values_listing inst = map (λ p. (place 0 kind.Value (Some p) None, basic_start inst p)) (upto (row_count inst))
-
--- 1 for a number that is not 0
-abbrev pub one_unless_zero : ℚ → ℕ
-one_unless_zero a = if eq_ℚ a zero_ℚ then 0 else 1
 
 -- how many structurals have an entry in row i
 abbrev pub row_entries : Instance → ℕ → ℕ

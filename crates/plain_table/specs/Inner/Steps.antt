@@ -14,12 +14,17 @@ use Rattle.lp_run.specs.State.{State, after}
 use Rattle.lp_run.specs.Step.{IsNext, Leaves, Limit, direction}
 use Rattle.lp_run.specs.Tableau.{table_column}
 use Rattle.plain_table.specs.declared.motion.Motion.{Motion}
+use Rattle.plain_table.specs.declared.motion.Parts.{Parts}
 use Rattle.plain_table.specs.Plain.{Plain, Stands}
 use Rattle.plain_table.specs.Inner.Rows.{AreTaken, AreWide}
 
 -- the table of these parts
 abbrev pub table_of : State → List (List ℚ) → List ℚ → List ℚ → ℕ → Plain
 table_of s rows values costs number = record { state = s; rows = rows; values = values; costs = costs; number = number }
+
+-- the table that has these parts
+abbrev pub parts_table : Parts → Plain
+parts_table t = table_of t.state.now t.rows.now t.values.now t.costs.now t.number
 
 -- the ratio of the limit that decides
 abbrev pub ratio_by : Leave → ℚ

@@ -1,5 +1,6 @@
 -- A product of 0 changes nothing, and one of two other numbers is worked.
-use Rattle.std.proofs.Common.{inl, inr}
+use Rattle.std.proofs.Common.{inl, inr, arith}
+use Rattle.rational.proofs.OrderLaws.{one_unless_zero-other}
 use Rattle.sparse_steps.proofs.Steps.{apart, refused, skipped_sum, unfit_sum, settled_sum}
 use Rattle.sparse_steps.proofs.more_product.Goals as goal
 use Rattle.sparse_steps.proofs.more_product.Goals.{then-is_zero-via-then-is_zero, then-is_zero-via-else-is_zero+then-is_zero-2}
@@ -22,3 +23,9 @@ returns-in_err-product-clause-settled g c =
     let left = apart _ _ c.is_zero.ensures c.if-is_zero.false in
     let right = apart _ _ c.is_zero-else-is_zero.ensures c.if-is_zero-2.false in
     refused _ _ _ (λ x. x) (unfit_sum _ c.args.x c.args.a c.args.b left right c.in_err-product.ensures.answer) c.from_residual.ensures.1
+
+pub returns-clause-work : goal.returns-clause-work
+returns-clause-work g c = omega (arith, one_unless_zero-other c.args.a (apart _ _ c.is_zero.ensures c.if-is_zero.false))
+
+pub returns-in_err-product-clause-work : goal.returns-in_err-product-clause-work
+returns-in_err-product-clause-work g c = omega (arith, one_unless_zero-other c.args.a (apart _ _ c.is_zero.ensures c.if-is_zero.false))

@@ -1,5 +1,5 @@
 -- Factors of a state's basis: that they are, how they are made, and what it costs to follow an exchange.
-use Rattle.std.specs.Prelude.{◌≡◌, ℕ, ◌*◌, ◌<◌, ◌==◌, List, length, Some, if◌then◌else◌}
+use Rattle.std.specs.Prelude.{◌≡◌, ℕ, ◌<◌, List, length, Some}
 use Rattle.rational.specs.Rational.{ℚ}
 use Rattle.rational.specs.Worked.{settle}
 use Rattle.sparse_cols.specs.Sparse.{Sparse}
@@ -7,7 +7,7 @@ use Rattle.lp_run.specs.Instance.{Instance, column_count, column_kind, row_count
 use Rattle.lp_run.specs.Solution.{Regular, basis_entry}
 use Rattle.lp_run.specs.State.{State, basic}
 use Rattle.bland_ratio.specs.Pricing.{kind_entries}
-use Rattle.factor_model.specs.Factors.{AreFactors, Factors, most_updates}
+use Rattle.factor_model.specs.Factors.{AreFactors, Factors}
 use Rattle.factor_run.specs.Built.{made_anew}
 
 -- these are the basic columns of the state, a column for each row, and its basis is regular
@@ -25,7 +25,3 @@ sparse_column inst q = record { length = row_count inst; pairs = kind_entries in
 pub record FactorsFrom (w : ℕ) (inst : Instance) (s : State) (number : ℕ) (f : Factors) : Type 0 where
   pub made : settle w (made_anew inst s number) ≡ Some (Some f)
   pub factors : AreFactors (row_count inst) f (basis_entry inst s)
-
--- at most so many products and quotients where factors of m rows with so many updates follow an exchange
-abbrev pub follow_work : ℕ → ℕ → ℕ
-follow_work m updates = if updates == most_updates then m * m * m else m * m

@@ -1,17 +1,12 @@
 -- What a step of a run comes to.
-use Rattle.std.specs.Prelude.{◌≡◌, ℕ, ◌≤◌, ◌⊎◌, List, [], ◌∷◌, ◌++◌, Option, Some, None, MatchOption, true}
+use Rattle.std.specs.Prelude.{◌≡◌, ℕ, ◌≤◌, List, [], ◌∷◌, ◌++◌, Option, MatchOption, true}
 use Rattle.lp_model.specs.declared.Entry.{Entry}
 use Rattle.lp_model.specs.Log.{moves}
 use Rattle.rational.specs.Rational.{ℚ}
 use Rattle.lp_run.specs.Instance.{Instance}
 use Rattle.lp_run.specs.Run.{IsSpent}
-use Rattle.lp_model.specs.declared.Place.{Place}
-use Rattle.rational.specs.Worked.{settle}
-use Rattle.lp_run.specs.Listing.{first_unfit}
 use Rattle.lp_run.specs.Solution.{Prices}
-use Rattle.plain_table.specs.Inner.Starts.{start_values_listing}
-use Rattle.factor_run.specs.Built.{made_anew}
-use Rattle.lp_run.specs.State.{State, start_of}
+use Rattle.lp_run.specs.State.{State}
 use Rattle.lp_run.specs.Step.{Enters, IsNext, NoneEligible}
 use Rattle.run_outcome.specs.Endings.{Stops}
 use Rattle.two_phase.specs.declared.iterate.Iterate.{Iterate}
@@ -33,7 +28,3 @@ Reaches w inst budget log s log' new reached.Spent = (log' ≡ log) × IsIterate
 -- the column enters at the state, and where there is none, none is eligible
 abbrev pub IsChosen : Instance → State → Option ℕ → Type 0
 IsChosen inst s entering = (y : List ℚ) × Prices inst s y × MatchOption entering (NoneEligible inst s y) (Enters inst s y)
-
--- a basic value at the start does not fit the width, or a value that is worked for the factors of the start
-abbrev pub IsUnstarted : ℕ → Instance → Type 0
-IsUnstarted w inst = ((here : Place) × (first_unfit w (start_values_listing inst) ≡ Some here)) ⊎ (settle w (made_anew inst (start_of inst) 0) ≡ None)

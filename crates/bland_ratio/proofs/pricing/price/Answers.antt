@@ -1,6 +1,7 @@
 -- The entries of a structural are gathered; a logical and an artificial have one.
-use Rattle.std.proofs.Common.{◌≡◌, ◌<◌, length, refl, ◌∙◌, ap, arith}
-use Rattle.rational.specs.Rational.{ℚ, one_ℚ}
+use Rattle.std.proofs.Common.{◌≡◌, ◌<◌, length, pos, refl, ◌∙◌, ap, arith}
+use Rattle.rational.specs.Rational.{ℚ, one_ℚ, ratio}
+use Rattle.rational.proofs.OrderLaws.{one_unless_zero-le}
 use Rattle.exact_frac.specs.Constants.{ratio-one}
 use Rattle.sparse_cols.specs.Sparse.{Sparse}
 use Rattle.sparse_steps.proofs.Steps.{item_read}
@@ -26,12 +27,12 @@ returns-in-Structural-clause-work g c =
 pub returns-in-Logical-clause-work : goal.returns-in-Logical-clause-work
 returns-in-Logical-clause-work g c =
     let stored : 1 ≡ column_entries c.args.inst.now c.args.j = entries-of c.args.inst.now c.args.j (column.Logical c.in-Logical.i) c.in-Logical.ensures in
-    omega (arith, stored, c.less_product.ensures.work)
+    omega (arith, stored, one_unless_zero-le (ratio (pos 1) 1), c.less_product.ensures.work)
 
 pub returns-in-Artificial-clause-work : goal.returns-in-Artificial-clause-work
 returns-in-Artificial-clause-work g c =
     let stored : 1 ≡ column_entries c.args.inst.now c.args.j = entries-of c.args.inst.now c.args.j (column.Artificial c.in-Artificial.i) c.in-Artificial.ensures in
-    omega (arith, stored, c.less_product-in-Artificial.ensures.work)
+    omega (arith, stored, one_unless_zero-le c.sign.result, c.less_product-in-Artificial.ensures.work)
 
 pub returns-in-Logical-clause-settled : goal.returns-in-Logical-clause-settled
 returns-in-Logical-clause-settled g c =

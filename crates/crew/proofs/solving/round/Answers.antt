@@ -2,7 +2,7 @@ use Rattle.std.proofs.Common.{◌+◌, ◌*◌, ◌≤◌, refl, sym, ◌∙◌,
 use Rattle.lp_run.specs.Instance.{row_count}
 use Rattle.bland_ratio.specs.Entries.{stored_entries}
 use Rattle.bland_ratio.specs.Pricing.{unfit_where}
-use Rattle.two_phase.specs.Inner.Works.{ground_owed, move_work, recorded_work}
+use Rattle.two_phase.specs.Works.{ground_owed, move_work, recorded_work}
 use Rattle.plain_table.proofs.Coming.{handed_on}
 use Rattle.crew.specs.Inner.Works.{IsCalmFault}
 use Rattle.two_phase.proofs.Tallies.{round_worked}

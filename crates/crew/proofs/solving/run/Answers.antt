@@ -1,8 +1,7 @@
-use Rattle.std.proofs.Common.{◌+◌, length, refl, ◌∙◌, ap, sym, subst, arith}
-use Rattle.factor_run.specs.Calm.{IsCalm}
-use Rattle.two_phase.specs.Tally.{HasRoundWorked, HasWorked}
+use Rattle.std.proofs.Common.{◌+◌, refl, ◌∙◌, ap, sym, subst, arith}
+use Rattle.two_phase.proofs.Boards.{not_plain}
 use Rattle.two_phase.proofs.Tallies.{nothing_worked}
-use Rattle.crew.proofs.Calms.{on_ok_all}
+use Rattle.crew.proofs.Calms.{calm_yet, on_ok_all, round_worked}
 use Rattle.std.specs.Arc.{arc_value}
 use Rattle.two_phase.specs.Board.{BoardStands}
 use Rattle.two_phase.specs.declared.standing.Recorded.TheVariants as recorded
@@ -36,7 +35,7 @@ rounds-init g c =
       board_width = refl;
       width = refl;
       unfit = omega arith;
-      calm = λ calm fresh. (fresh.factors, refl, refl, nothing_worked b.inst.value b.log b.updates (g.A.Arith.work_count b.arith + g.A.Arith.work_count c.args.arith.now) fresh.log fresh.updates);
+      calm = λ calm fresh. (not_plain b.ground fresh.factors, refl, refl, nothing_worked b.inst.value b.log b.updates (g.A.Arith.work_count b.arith + g.A.Arith.work_count c.args.arith.now) fresh.log fresh.updates);
     }
 
 pub rounds-preserved-in-Entry : goal.rounds-preserved-in-Entry
@@ -47,8 +46,6 @@ rounds-preserved-in-Entry g c =
     let e = c.in_ok-round.ensures in
     let inv = c.rounds.invariant in
     let before = g.A.Arith.work_count start.arith + g.A.Arith.work_count c.args.arith.now in
-    let then = g.A.Arith.work_count b.arith + g.A.Arith.work_count c.rounds.arith in
-    let now = g.A.Arith.work_count new.arith + g.A.Arith.work_count c.round.new.arith in
     let goes : GoesOn b new (recorded.Entry c.in-Entry.field-0) = subst (GoesOn b new) c.in-Entry.is e.goes in
     record {
       stands = subst (λ w. BoardStands w new) inv.board_width e.stands;
@@ -60,11 +57,9 @@ rounds-preserved-in-Entry g c =
       unfit = omega (arith, inv.unfit, e.unfit);
       calm = λ calm fresh.
           let (factors, board_fits, fits, worked) = inv.calm calm fresh in
-          let calm' = subst (λ w. IsCalm w b.inst.value) (sym inv.board_width) (subst (λ i. IsCalm (g.A.Arith.width start.arith) (arc_value i)) (sym inv.instance) calm) in
-          let kept = e.calm calm' factors in
-          let round = e.work before calm' factors (subst (λ i. HasWorked (arc_value i) b.log (length b.log) b.updates before then) (sym inv.instance) worked) in
-          let entry : HasRoundWorked b.inst.value new before now (recorded.Entry c.in-Entry.field-0) = subst (HasRoundWorked b.inst.value new before now) c.in-Entry.is round in
-          (entry.0, kept.0 ∙ board_fits, kept.1 ∙ fits, subst (λ i. HasWorked (arc_value i) new.log (length new.log) new.updates before now) inv.instance entry.1);
+          let kept = e.calm (calm_yet _ _ inv.board_width start b new inv.instance calm) factors in
+          let entry = round_worked _ _ inv.board_width start b new inv.instance calm before _ _ _ _ c.in-Entry.is factors worked (e.work before) in
+          (entry.0, kept.0 ∙ board_fits, kept.1 ∙ fits, entry.1);
     }
 
 pub rounds-preserved : goal.rounds-preserved
@@ -75,8 +70,6 @@ rounds-preserved g c =
     let e = c.in_ok-round.ensures in
     let inv = c.rounds.invariant in
     let before = g.A.Arith.work_count start.arith + g.A.Arith.work_count c.args.arith.now in
-    let then = g.A.Arith.work_count b.arith + g.A.Arith.work_count c.rounds.arith in
-    let now = g.A.Arith.work_count new.arith + g.A.Arith.work_count c.round.new.arith in
     let goes : GoesOn b new recorded.Rescued = subst (GoesOn b new) c.in-Rescued.is e.goes in
     record {
       stands = subst (λ w. BoardStands w new) inv.board_width e.stands;
@@ -88,10 +81,7 @@ rounds-preserved g c =
       unfit = omega (arith, inv.unfit, e.unfit);
       calm = λ calm fresh.
           let (factors, board_fits, fits, worked) = inv.calm calm fresh in
-          let calm' = subst (λ w. IsCalm w b.inst.value) (sym inv.board_width) (subst (λ i. IsCalm (g.A.Arith.width start.arith) (arc_value i)) (sym inv.instance) calm) in
-          let round = e.work before calm' factors (subst (λ i. HasWorked (arc_value i) b.log (length b.log) b.updates before then) (sym inv.instance) worked) in
-          let rescued : HasRoundWorked b.inst.value new before now recorded.Rescued = subst (HasRoundWorked b.inst.value new before now) c.in-Rescued.is round in
-          absurd rescued;
+          absurd (round_worked _ _ inv.board_width start b new inv.instance calm before _ _ _ _ c.in-Rescued.is factors worked (e.work before));
     }
 
 pub returns-in-Ended-clause-work : goal.returns-in-Ended-clause-work
@@ -102,10 +92,5 @@ returns-in-Ended-clause-work g c calm fresh =
     let e = c.in_ok-round.ensures in
     let inv = c.rounds.invariant in
     let before = g.A.Arith.work_count start.arith + g.A.Arith.work_count c.args.arith.now in
-    let then = g.A.Arith.work_count b.arith + g.A.Arith.work_count c.rounds.arith in
-    let now = g.A.Arith.work_count new.arith + g.A.Arith.work_count c.round.new.arith in
     let (factors, board_fits, fits, worked) = inv.calm calm fresh in
-    let calm' = subst (λ w. IsCalm w b.inst.value) (sym inv.board_width) (subst (λ i. IsCalm (g.A.Arith.width start.arith) (arc_value i)) (sym inv.instance) calm) in
-    let round = e.work before calm' factors (subst (λ i. HasWorked (arc_value i) b.log (length b.log) b.updates before then) (sym inv.instance) worked) in
-    let ended : HasRoundWorked b.inst.value new before now (recorded.Ended c.in-Ended.standing) = subst (HasRoundWorked b.inst.value new before now) c.in-Ended.is round in
-    on_ok_all c.end_of.result (subst (λ i. HasWorked (arc_value i) new.log (length new.log + 1) new.updates before now) inv.instance ended)
+    on_ok_all c.end_of.result (round_worked _ _ inv.board_width start b new inv.instance calm before _ _ _ _ c.in-Ended.is factors worked (e.work before))

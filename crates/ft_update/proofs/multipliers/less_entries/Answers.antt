@@ -1,6 +1,7 @@
 -- Each step takes the next product.
 use Rattle.std.proofs.Common.{ℕ, ◌+◌, ◌<◌, length, length-drop, ◌∙◌, arith}
 use Rattle.rational.specs.Rational.{ℚ}
+use Rattle.rational.proofs.OrderLaws.{one_unless_zero-le}
 use Rattle.rational.proofs.Loops.{step_settles, step_stops, all_worked}
 use Rattle.sparse_steps.proofs.Steps.{refused}
 use Rattle.factor_model.specs.Upper.{cell}
@@ -27,8 +28,12 @@ loop-row-preserved g c =
       left = step_settles _ _ c.loop-row.invariant.width _ _ _ (less_parts item ks j c.loop-row-item.result c.loop-row.rest c.entry.result lt c.loop-row-item.is
           c.entry.ensures) _ c.loop-row.invariant.left _ c.in_ok-rest.ensures.settled;
       unfit = c.in_ok-rest.ensures.unfit ∙ c.loop-row.invariant.unfit;
-      work = omega (arith, length-drop j ks, length-drop (j + 1) ks);
+      work = omega (arith, length-drop j ks, length-drop (j + 1) ks, one_unless_zero-le c.loop-row-item.result.1, c.in_ok-rest.ensures.work, c.loop-row.invariant.work);
     }
+
+pub returns-in_err-rest-clause-work : goal.returns-in_err-rest-clause-work
+returns-in_err-rest-clause-work g c =
+    omega (arith, length-drop c.loop-row.row-index c.args.taken.now, one_unless_zero-le c.loop-row-item.result.1, c.in_err-rest.ensures.work, c.loop-row.invariant.work)
 
 pub returns-clause-settled : goal.returns-clause-settled
 returns-clause-settled g c =

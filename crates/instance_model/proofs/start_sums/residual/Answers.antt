@@ -63,7 +63,7 @@ returns-in-Err-clause-work g c =
     let within : k < length (off_zero inst) = subst (λ js. k < length js) c.requires.moved c.loop-k-test.true in
     let is : j ≡ get_or (off_zero inst) k 0 = ap (λ js. get_or js k 0) c.requires.moved in
     let left = c.entry.ensures ∙ ap (λ (s : Sparse ℚ). entry_at s.pairs c.args.row) c.column.ensures ∙ ap (λ (s : Structural). entry_at s.entries c.args.row) (structural_is d j below) in
-    let spent = step_costs inst c.args.row (off_zero inst) k j c.entry.result within is left _ _ _ c.less_entry.ensures.work c.loop-k.invariant.work in
+    let spent = step_costs inst c.args.row (off_zero inst) k j c.entry.result within is left _ _ _ c.less_product.ensures.work c.loop-k.invariant.work in
     omega (arith, spent)
 
 pub loop-k-preserved : goal.loop-k-preserved
@@ -79,9 +79,9 @@ loop-k-preserved g c =
     let right = c.start_value-value.ensures ∙ ap (λ (i : Interval). start_value i) c.column_bounds.ensures ∙ ap (λ (s : Structural). start_value s.bounds) (structural_is d j below) in
     let settled = subst (λ w. settle w (less c.loop-k.rest c.entry.result c.start_value-value.result) ≡ Some c.in-Ok.left) c.loop-k.invariant.width c.in-Ok.ensures.settled in
     record {
-      width = c.less_entry.ensures.width ∙ c.loop-k.invariant.width;
+      width = c.less_product.ensures.width ∙ c.loop-k.invariant.width;
       unfit = c.in-Ok.ensures.unfit ∙ c.loop-k.invariant.unfit;
-      work = step_costs inst c.args.row (off_zero inst) k j c.entry.result within is left _ _ _ c.less_entry.ensures.work c.loop-k.invariant.work;
+      work = step_costs inst c.args.row (off_zero inst) k j c.entry.result within is left _ _ _ c.less_product.ensures.work c.loop-k.invariant.work;
       left = taking_settles inst c.args.row (g.A.Arith.width c.args.arith.now) (off_zero inst) k j c.loop-k.rest c.entry.result c.start_value-value.result within is left right c.in-Ok.left settled
           ∙ c.loop-k.invariant.left;
       rest = taking_leaves inst c.args.row (g.A.Arith.width c.args.arith.now) (off_zero inst) k j c.loop-k.rest c.entry.result c.start_value-value.result within is left right c.in-Ok.left settled

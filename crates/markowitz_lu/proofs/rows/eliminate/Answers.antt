@@ -1,14 +1,13 @@
 -- Each step works the next multiplier and its row.
 use Rattle.std.proofs.Common.{◌≡◌, ℕ, ◌+◌, ◌<◌, List, [], ◌∷◌, None, drop, length, replicate, sym, ap, subst, ◌∙◌, refl, arith}
 use Rattle.rational.specs.Rational.{ℚ}
-use Rattle.rational.specs.Worked.{Worked, bind, settle, quotient}
+use Rattle.rational.specs.Worked.{bind, settle, quotient}
 use Rattle.rational.proofs.Loops.{step_settles, step_stops, all_worked}
 use Rattle.sparse_cols.specs.Sparse.{Sparse, insert_pair}
-use Rattle.factor_model.specs.Factoring.{Eliminated}
 use Rattle.factor_model.specs.Update.{AreApart}
 use Rattle.cross_links.specs.Cells.{cell}
 use Rattle.markowitz_lu.specs.Inner.Lines.{less_line, less_lines}
-use Rattle.markowitz_lu.proofs.LineSteps.{AreAbsent, stopped, stops_too, handed_on, quotient_settles, quotient_stops, alike-all, drop_next, none_yet, still_absent, lines_parts, lines_end, one_more}
+use Rattle.markowitz_lu.proofs.LineSteps.{AreAbsent, stopped, stops_too, handed_on, quotient_stops, alike-all, drop_next, none_yet, still_absent, lines_parts, lines_left, line_next, lines_end, one_more}
 use Rattle.markowitz_lu.proofs.rows.eliminate.Goals as goal
 
 pub loop-i-init : goal.loop-i-init
@@ -39,29 +38,26 @@ returns-in_err-k-clause-fault g c =
     let pair : ℕ × ℚ = c.loop-i-item.result in
     let lt : j < length column = omega arith in
     stopped _ (less_lines u row (cell c.args.cross.now) [] column) _
-    (step_stops _ _ c.loop-i.invariant.width (quotient pair.1 u) (λ k. bind (less_line pair.0 k f row) (λ b. less_lines u row b (insert_pair pair.0 k ks) (drop (j + 1) column))) _
+    (step_stops _ _ c.loop-i.invariant.width (quotient pair.1 u) (λ k. bind (less_line pair.0 k f row) (lines_left u row column j pair ks k)) _
     (lines_parts u row column j pair f ks lt c.loop-i-item.is) _ c.loop-i.invariant.left (quotient_stops _ pair.1 u c.in_err-k.ensures.answer))
     c.from_residual.ensures.1
 
 pub returns-in_err-less_line-clause-fault : goal.returns-in_err-less_line-clause-fault
 returns-in_err-less_line-clause-fault g c =
-    let column = c.args.column.now in
-    let row = c.args.row.now in
     let u = c.args.pivot in
-    let j = c.loop-i.i-index in
-    let f : ℕ → ℕ → ℚ = cell c.loop-i.cross in
+    let row = c.args.row.now in
     let ks = c.loop-i.multipliers.pairs in
-    let k = c.in_ok-k.k in
     let pair : ℕ × ℚ = c.loop-i-item.result in
     let w = g.A.Arith.width c.args.arith.now in
-    let lt : j < length column = omega arith in
-    let rest : (b : ℕ → ℕ → ℚ) → Worked Eliminated = λ b. less_lines u row b (insert_pair pair.0 k ks) (drop (j + 1) column) in
-    let here : settle w (bind (less_line pair.0 k f row) rest) ≡ settle w (less_lines u row (cell c.args.cross.now) [] column) =
-    step_settles _ _ c.loop-i.invariant.width (quotient pair.1 u) (λ x. bind (less_line pair.0 x f row) (λ b. less_lines u row b (insert_pair pair.0 x ks) (drop (j + 1) column))) _
-    (lines_parts u row column j pair f ks lt c.loop-i-item.is) _ c.loop-i.invariant.left k (quotient_settles _ pair.1 u k c.in_ok-k.ensures.answer) in
-    handed_on w (less_lines u row (cell c.args.cross.now) [] column) _ c.in_err-less_line.field-0.0
-    (stops_too _ w (less_line pair.0 k f row) (less_lines u row (cell c.args.cross.now) [] column) c.in_err-less_line.field-0.0
-    (λ none. step_stops _ w (c.in_ok-k.ensures.same_width ∙ c.loop-i.invariant.width) (less_line pair.0 k f row) rest _ refl _ here none)
+    let whole = less_lines u row (cell c.args.cross.now) [] c.args.column.now in
+    let line = less_line pair.0 c.in_ok-k.k (cell c.loop-i.cross) row in
+    handed_on w whole _ c.in_err-less_line.field-0.0
+    (stops_too _ w line whole c.in_err-less_line.field-0.0
+    (λ none.
+    step_stops _ w (c.in_ok-k.ensures.same_width ∙ c.loop-i.invariant.width) line (lines_left u row c.args.column.now c.loop-i.i-index pair ks c.in_ok-k.k) _ refl _
+    (line_next u row c.args.column.now c.loop-i.i-index pair (cell c.loop-i.cross) ks (omega arith) c.loop-i-item.is _ w c.loop-i.invariant.width c.in_ok-k.k
+    c.in_ok-k.ensures.answer _ c.loop-i.invariant.left)
+    none)
     c.in_err-less_line.ensures.fault)
     c.from_residual-in_err-less_line.ensures.1
 
@@ -77,10 +73,6 @@ loop-i-preserved g c =
     let pair : ℕ × ℚ = c.loop-i-item.result in
     let w = g.A.Arith.width c.args.arith.now in
     let lt : j < length column = omega arith in
-    let rest : (b : ℕ → ℕ → ℚ) → Worked Eliminated = λ b. less_lines u row b (insert_pair pair.0 k ks) (drop (j + 1) column) in
-    let here : settle w (bind (less_line pair.0 k f row) rest) ≡ settle w (less_lines u row (cell c.args.cross.now) [] column) =
-    step_settles _ _ c.loop-i.invariant.width (quotient pair.1 u) (λ x. bind (less_line pair.0 x f row) (λ b. less_lines u row b (insert_pair pair.0 x ks) (drop (j + 1) column))) _
-    (lines_parts u row column j pair f ks lt c.loop-i-item.is) _ c.loop-i.invariant.left k (quotient_settles _ pair.1 u k c.in_ok-k.ensures.answer) in
     let next = drop_next column j pair lt c.loop-i-item.is in
     let apart : AreApart c.args.m (pair ∷ drop (j + 1) column) = subst (AreApart c.args.m) next c.loop-i.invariant.apart in
     let absent : AreAbsent ks (pair ∷ drop (j + 1) column) = subst (AreAbsent ks) next c.loop-i.invariant.absent in
@@ -88,7 +80,8 @@ loop-i-preserved g c =
     record {
       left =
           ap (λ (qs : List (ℕ × ℚ)). settle w (less_lines u row (cell c.less_line.new.cross) qs (drop (j + 1) column))) kept
-          ∙ step_settles _ w (c.in_ok-k.ensures.same_width ∙ c.loop-i.invariant.width) (less_line pair.0 k f row) rest _ refl _ here (cell c.less_line.new.cross)
+          ∙ step_settles _ w (c.in_ok-k.ensures.same_width ∙ c.loop-i.invariant.width) (less_line pair.0 k f row) (lines_left u row column j pair ks k) _ refl _
+          (line_next u row column j pair f ks lt c.loop-i-item.is _ w c.loop-i.invariant.width k c.in_ok-k.ensures.answer _ c.loop-i.invariant.left) (cell c.less_line.new.cross)
           c.in_ok-less_line.ensures.settled;
       len = ap (λ (s : Sparse ℚ). s.length) c.in_ok-insert.ensures.ok ∙ c.loop-i.invariant.len;
       alike = alike-all c.args.cross.now c.loop-i.cross c.less_line.new.cross c.loop-i.invariant.alike c.in_ok-less_line.ensures.alike;

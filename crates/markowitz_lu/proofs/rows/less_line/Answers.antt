@@ -2,6 +2,7 @@
 use Rattle.std.proofs.Common.{◌≡◌, ℕ, ◌+◌, ◌<◌, ◌∷◌, drop, length, length-drop, sym, ap, subst, ◌∙◌, refl, arith}
 use Rattle.rational.specs.Rational.{ℚ}
 use Rattle.rational.specs.Worked.{settle, less}
+use Rattle.rational.proofs.OrderLaws.{one_unless_zero-le}
 use Rattle.rational.proofs.Loops.{step_settles, step_stops, all_worked}
 use Rattle.factor_model.specs.Factoring.{with_entry}
 use Rattle.factor_model.specs.Update.{AreApart}
@@ -68,8 +69,11 @@ loop-p-preserved g c =
       linked = still_linked a c.put.new.cross i pair.0 c.in_ok-x.x c.args.index.now (drop (j + 1) row) put apart.1 linked.1;
       width = c.in_ok-x.ensures.width ∙ c.loop-p.invariant.width;
       unfit = c.in_ok-x.ensures.unfit ∙ c.loop-p.invariant.unfit;
-      work = omega (arith, length-drop j row, length-drop (j + 1) row);
+      work = omega (arith, length-drop j row, length-drop (j + 1) row, one_unless_zero-le k, c.in_ok-x.ensures.work, c.loop-p.invariant.work);
     }
+
+pub returns-in_err-x-clause-work : goal.returns-in_err-x-clause-work
+returns-in_err-x-clause-work g c = omega (arith, length-drop c.loop-p.p-index c.args.row.now, one_unless_zero-le c.args.k, c.in_err-x.ensures.work, c.loop-p.invariant.work)
 
 pub returns-clause-settled : goal.returns-clause-settled
 returns-clause-settled g c =

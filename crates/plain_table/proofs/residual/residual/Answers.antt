@@ -2,7 +2,7 @@
 use Rattle.std.proofs.Common.{◌≡◌, ◌+◌, ◌-◌, ◌<◌, refl, ◌∙◌, ap, arith}
 use Rattle.lp_model.specs.Deck.{Interval}
 use Rattle.rational.specs.Sparse.{entry_at}
-use Rattle.rational.specs.Rational.{ℚ}
+use Rattle.rational.specs.Rational.{ℚ, one_unless_zero}
 use Rattle.rational.specs.Worked.{settle}
 use Rattle.rational.proofs.Loops.{all_worked, step_settles, step_stops}
 use Rattle.lp_run.specs.Instance.{start_value, structural, structural_count}
@@ -12,7 +12,6 @@ use Rattle.plain_table.specs.Inner.Costs.{factors_from, priced}
 use Rattle.plain_table.proofs.Pricing.{priced_end, priced_start, priced_step}
 use Rattle.plain_table.proofs.Residuals.{structural_bounds}
 use Rattle.plain_table.proofs.StartWork.{row-more, row-within, row_taken}
-use Rattle.plain_table.specs.Inner.Starts.{one_unless_zero}
 use Rattle.plain_table.proofs.residual.residual.Goals as goal
 
 pub loop-j-init : goal.loop-j-init
@@ -48,7 +47,7 @@ loop-j-preserved g c =
     let entry = c.entry.ensures ∙ ap (λ (s : Sparse ℚ). entry_at s.pairs c.args.row) c.entries.ensures in
     let more : row_taken inst c.args.row (j + 1) ≡ row_taken inst c.args.row j + one_unless_zero c.entry.result = row-more inst c.args.row j c.entry.result within entry in
     record {
-      width = c.less_entry.ensures.width ∙ c.loop-j.invariant.width;
+      width = c.less_product.ensures.width ∙ c.loop-j.invariant.width;
       unfit = c.in_ok-rest.ensures.unfit ∙ c.loop-j.invariant.unfit;
       work = omega (arith, more, c.loop-j.invariant.work, c.in_ok-rest.ensures.work);
       left = step_settles _ _ c.loop-j.invariant.width _ _ _ (priced_step (λ j. entry_at (structural inst j).entries c.args.row)

@@ -8,7 +8,7 @@ invariant-loop-i g l = record {
   width : g.A.Arith.width l.arith ≡ g.A.Arith.width l.fn.arith;
   unfit : g.A.Arith.unfit_count l.arith ≡ g.A.Arith.unfit_count l.fn.arith;
   count : length l.out ≡ length l.rows;
-  spare : AreWide (length l.by) l.out;
-  fits : (k : ℕ) → k < l.i → AllFit (g.A.Arith.width l.fn.arith) (row_listing l.number (eqb (k + l.base) l.position) (k + l.base) l.q l.by (get_or l.rows k []));
-  eliminated : (k : ℕ) → k < l.i → EliminatesRow (eqb (k + l.base) l.position) l.q l.by l.columns (get_or l.rows k []) (get_or l.out k []);
+  spare : AreWide (length l.elimination.line.now) l.out;
+  fits : (k : ℕ) → k < l.i → AllFit (g.A.Arith.width l.fn.arith) (row_listing l.elimination.number (eqb (k + l.base) l.elimination.position) (k + l.base) l.elimination.column l.elimination.line.now (get_or l.rows k []));
+  eliminated : (k : ℕ) → k < l.i → EliminatesRow (eqb (k + l.base) l.elimination.position) l.elimination.column l.elimination.line.now l.elimination.support.now (get_or l.rows k []) (get_or l.out k []);
 }

@@ -11,6 +11,7 @@ use Rattle.plain_table.proofs.rows.take_all_over.Goals as goal
 pub loop-i-preserved : goal.loop-i-preserved
 loop-i-preserved c =
     let a = c.args in
+    let e = a.elimination.now in
     let i = c.loop-i.i in
     let rows = c.loop-i.rows in
     let row = c.take_over.new.row in
@@ -19,13 +20,13 @@ loop-i-preserved c =
     let packed = item_read a.packed.now i c.index-packed-i.result [] (omega (arith, c.requires.count)) c.index-packed-i.is in
     record {
       count = length-set rows i row ∙ c.loop-i.invariant.count;
-      wide = wide_set (length a.by.now) rows i row c.loop-i.invariant.wide within c.take_over.ensures.length;
+      wide = wide_set (length e.line.now) rows i row c.loop-i.invariant.wide within c.take_over.ensures.length;
       taken = below_more
-          (λ k. IsTaken (eqb (k + a.base) a.position) a.q a.by.now a.columns.now (get_or a.rows.now k []) (get_or a.packed.now k []) (get_or (set rows i row) k [])) i
-          (λ k b. subst (λ new. IsTaken (eqb (k + a.base) a.position) a.q a.by.now a.columns.now (get_or a.rows.now k []) (get_or a.packed.now k []) new)
+          (λ k. IsTaken (eqb (k + a.base) e.position) e.column e.line.now e.support.now (get_or a.rows.now k []) (get_or a.packed.now k []) (get_or (set rows i row) k [])) i
+          (λ k b. subst (λ new. IsTaken (eqb (k + a.base) e.position) e.column e.line.now e.support.now (get_or a.rows.now k []) (get_or a.packed.now k []) new)
           (sym (get_or-set_other rows i k row [] (omega arith))) (c.loop-i.invariant.taken k b))
-          (subst (λ new. IsTaken (eqb (i + a.base) a.position) a.q a.by.now a.columns.now (get_or a.rows.now i []) (get_or a.packed.now i []) new) (sym (get_or-set_same rows i row [] within))
-          (subst (λ old. IsTaken (eqb (i + a.base) a.position) a.q a.by.now a.columns.now old (get_or a.packed.now i []) row) old
-          (subst (λ out. IsTaken (eqb (i + a.base) a.position) a.q a.by.now a.columns.now (get_or rows i c.index-rows-i.result) out row) packed c.take_over.ensures.taken)));
+          (subst (λ new. IsTaken (eqb (i + a.base) e.position) e.column e.line.now e.support.now (get_or a.rows.now i []) (get_or a.packed.now i []) new) (sym (get_or-set_same rows i row [] within))
+          (subst (λ old. IsTaken (eqb (i + a.base) e.position) e.column e.line.now e.support.now old (get_or a.packed.now i []) row) old
+          (subst (λ out. IsTaken (eqb (i + a.base) e.position) e.column e.line.now e.support.now (get_or rows i c.index-rows-i.result) out row) packed c.take_over.ensures.taken)));
       left = λ k b. get_or-set_other rows i k row [] (omega arith) ∙ c.loop-i.invariant.left k (omega arith);
     }

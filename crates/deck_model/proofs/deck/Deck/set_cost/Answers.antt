@@ -1,6 +1,7 @@
 use Rattle.std.proofs.Common.{◌+◌, ◌-◌, ap, refl, ◌∙◌, arith}
 use Rattle.lp_model.specs.Edit.{with_cost}
-use Rattle.deck_model.proofs.Count.{one_unless_zero-le, count_in-le-count_of, count_of-le, entry_count-count_of}
+use Rattle.rational.proofs.OrderLaws.{one_unless_zero-le}
+use Rattle.deck_model.proofs.Count.{count_in-le-count_of, count_of-le, entry_count-count_of}
 use Rattle.deck_model.proofs.Sound.{column_at, column_changed, deck_of-column_changed}
 use Rattle.deck_model.proofs.deck.Deck.set_cost.Goals as goal
 

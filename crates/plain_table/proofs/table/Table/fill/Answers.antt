@@ -1,17 +1,16 @@
 -- The parts of the listing, one after another, and the table that they fill.
-use Rattle.std.proofs.Common.{◌≡◌, ℕ, ◌<◌, Some, sym, ◌∙◌, ap, subst}
+use Rattle.std.proofs.Common.{◌≡◌, ℕ, ◌<◌, Some, refl, sym, ◌∙◌, ap, subst}
 use Rattle.std.specs.Vec.{with_items}
 use Rattle.rational.specs.Sum.{at}
 use Rattle.lp_run.specs.Instance.{column_count, cost, row_count}
 use Rattle.lp_run.specs.Listing.{AllFit, first_unfit}
 use Rattle.lp_run.specs.State.{basic}
-use Rattle.plain_table.specs.declared.table.Table.TheInside.{Inside}
 use Rattle.plain_table.specs.Inner.Costs.{cost_work, costs_work_listing}
 use Rattle.plain_table.specs.Inner.Makings.{IsAtStart}
 use Rattle.plain_table.specs.Inner.Rows.{AreWide}
 use Rattle.plain_table.specs.Inner.Starts.{AreStartRows, start_values_listing}
 use Rattle.plain_table.proofs.Makings.{judged_as, judged_refusal, making_first, making_second, making_third, on_ok, start_costs_are, start_costs_listed}
-use Rattle.plain_table.proofs.Memories.{HasMemory, memory_of, same_length, sound_again, start_again, written}
+use Rattle.plain_table.proofs.Memories.{memory_of, refilled, same_length, sound_again, start_again, written}
 use Rattle.plain_table.proofs.table.Table.fill.Goals as goal
 
 pub returns-in_err-fill_rows-clause-answer : goal.returns-in_err-fill_rows-clause-answer
@@ -23,24 +22,10 @@ invariant_of-self-in_err-work_start_values g c =
     let inst = c.args.inst.now in
     let a = c.self.inside in
     let start : IsAtStart inst _ = subst (IsAtStart inst) (sym c.self.view_is) c.requires.start in
-    let m = memory_of inst a c.self.invariant start in
     let rows_are = written a.rows c.as_mut_slice.result.now c.fill_rows.new.out c.as_mut_slice.ensures.value c.fill_rows.auto.out in
     sound_again inst a c.self.invariant start _
-    (record {
-      state = m.state;
-      number = m.number;
-      rows = same_length a.rows c.fill_rows.new.out ∙ m.rows;
-      wide = subst (AreWide (column_count inst)) (sym rows_are) c.fill_rows.ensures.wide;
-      values = same_length a.values c.work_start_values.new.out ∙ m.values;
-      costs = m.costs;
-      spare_rows = m.spare_rows;
-      spare_wide = m.spare_wide;
-      spare_values = m.spare_values;
-      spare_costs = m.spare_costs;
-      pivot_row = m.pivot_row;
-      support = m.support;
-      alpha = m.alpha;
-    })
+    (refilled inst a (memory_of inst a c.self.invariant start) (with_items a.rows c.fill_rows.new.out) (with_items a.values c.work_start_values.new.out) a.costs a.alpha
+    (subst (AreWide (column_count inst)) (sym rows_are) c.fill_rows.ensures.wide) (same_length a.rows _) (same_length a.values _) refl refl)
 
 pub returns-in_err-work_start_values-clause-answer : goal.returns-in_err-work_start_values-clause-answer
 returns-in_err-work_start_values-clause-answer g c =
@@ -59,24 +44,11 @@ invariant_of-self-2 g c =
     let inst = c.args.inst.now in
     let a = c.self.inside in
     let start : IsAtStart inst _ = subst (IsAtStart inst) (sym c.self.view_is) c.requires.start in
-    let m = memory_of inst a c.self.invariant start in
     let rows_are = written a.rows c.as_mut_slice.result.now c.fill_rows.new.out c.as_mut_slice.ensures.value c.fill_rows.auto.out in
     sound_again inst a c.self.invariant start _
-    (record {
-      state = m.state;
-      number = m.number;
-      rows = same_length a.rows c.fill_rows.new.out ∙ m.rows;
-      wide = subst (AreWide (column_count inst)) (sym rows_are) c.fill_rows.ensures.wide;
-      values = same_length a.values c.work_start_values.new.out ∙ m.values;
-      costs = same_length a.costs c.work_costs.new.out ∙ m.costs;
-      spare_rows = m.spare_rows;
-      spare_wide = m.spare_wide;
-      spare_values = m.spare_values;
-      spare_costs = m.spare_costs;
-      pivot_row = m.pivot_row;
-      support = m.support;
-      alpha = same_length a.alpha c.basic_costs.new.out ∙ m.alpha;
-    })
+    (refilled inst a (memory_of inst a c.self.invariant start) (with_items a.rows c.fill_rows.new.out) (with_items a.values c.work_start_values.new.out)
+    (with_items a.costs c.work_costs.new.out) (with_items a.alpha c.basic_costs.new.out)
+    (subst (AreWide (column_count inst)) (sym rows_are) c.fill_rows.ensures.wide) (same_length a.rows _) (same_length a.values _) (same_length a.costs _) (same_length a.alpha _))
 
 pub returns-clause-answer : goal.returns-clause-answer
 returns-clause-answer g c =
@@ -102,7 +74,6 @@ returns-clause-filled g c =
     let inst = c.args.inst.now in
     let a = c.self.inside in
     let start : IsAtStart inst _ = subst (IsAtStart inst) (sym c.self.view_is) c.requires.start in
-    let m = memory_of inst a c.self.invariant start in
     let rows_are = written a.rows c.as_mut_slice.result.now c.fill_rows.new.out c.as_mut_slice.ensures.value c.fill_rows.auto.out in
     let values_are = written a.values c.as_mut_slice-2.result.now c.work_start_values.new.out c.as_mut_slice-2.ensures.value c.work_start_values.auto.out in
     let costs_are = written a.costs c.as_mut_slice-4.result.now c.work_costs.new.out c.as_mut_slice-4.ensures.value c.work_costs.auto.out in
@@ -112,37 +83,13 @@ returns-clause-filled g c =
     let filled = subst (AreStartRows inst) (sym rows_read) c.in_ok-fill_rows.ensures.filled in
     let basics : (p : ℕ) → p < row_count inst → at c.deref.result.now p ≡ cost inst a.state.phase (basic a.state p) =
     λ p b. ap (λ v. at v p) costs_read ∙ c.basic_costs.ensures p (subst (λ k. p < k) (sym start.sized.basis) b) ∙ ap (λ phase. cost inst phase (basic a.state p)) c.phase-phase.ensures in
-    let b : Inside = record {
-      state = a.state;
-      rows = with_items a.rows c.fill_rows.new.out;
-      values = with_items a.values c.work_start_values.new.out;
-      costs = with_items a.costs c.work_costs.new.out;
-      number = a.number;
-      spare_rows = a.spare_rows;
-      spare_values = a.spare_values;
-      spare_costs = a.spare_costs;
-      pivot_row = a.pivot_row;
-      support = a.support;
-      alpha = with_items a.alpha c.basic_costs.new.out;
-    } in
-    let memory : HasMemory inst b = record {
-      state = m.state;
-      number = m.number;
-      rows = same_length a.rows c.fill_rows.new.out ∙ m.rows;
-      wide = subst (AreWide (column_count inst)) (sym rows_are) c.fill_rows.ensures.wide;
-      values = same_length a.values c.work_start_values.new.out ∙ m.values;
-      costs = same_length a.costs c.work_costs.new.out ∙ m.costs;
-      spare_rows = m.spare_rows;
-      spare_wide = m.spare_wide;
-      spare_values = m.spare_values;
-      spare_costs = m.spare_costs;
-      pivot_row = m.pivot_row;
-      support = m.support;
-      alpha = same_length a.alpha c.basic_costs.new.out ∙ m.alpha;
-    } in
+    let memory =
+    refilled inst a (memory_of inst a c.self.invariant start) (with_items a.rows c.fill_rows.new.out) (with_items a.values c.work_start_values.new.out)
+    (with_items a.costs c.work_costs.new.out) (with_items a.alpha c.basic_costs.new.out)
+    (subst (AreWide (column_count inst)) (sym rows_are) c.fill_rows.ensures.wide) (same_length a.rows _) (same_length a.values _) (same_length a.costs _) (same_length a.alpha _) in
     on_ok c.work_costs.result
     (λ costs. record {
-      start = start_again inst a c.self.invariant start b memory;
+      start = start_again inst a c.self.invariant start _ memory;
       rows_filled = subst (AreStartRows inst) (sym rows_are) c.in_ok-fill_rows.ensures.filled;
       values_filled = λ p e. ap (λ v. at v p) values_are ∙ c.in_ok-work_start_values.ensures.values p e;
       costs_filled = λ j e. ap (λ v. at v j) costs_are ∙ costs j e

@@ -1,6 +1,6 @@
 -- The swap is worked from the table, and the parts that are exchanged are those of the table after it.
-use Rattle.std.proofs.Common.{◌+◌, ◌<◌, ◌^◌, ◌++◌, ◌∷◌, [], length, get_or, take, Ok, refl, sym, ◌∙◌, ap, subst}
-use Rattle.std.proofs.lemmas.List.{with_items_is}
+use Rattle.std.proofs.Common.{◌+◌, ◌<◌, ◌^◌, ◌++◌, ◌∷◌, [], length, get_or, take, Ok, refl, sym, ◌∙◌, ap, subst, arith}
+use Rattle.std.proofs.lemmas.List.{length-take, with_items_is}
 use Rattle.std.specs.Vec.{with_items}
 use Rattle.lp_model.specs.declared.Entry.TheVariants.{Swap}
 use Rattle.plain_table.specs.Answers.{IsNextOf, JudgesStep}
@@ -58,22 +58,21 @@ take_all_over-requires-clause-spare g c =
     subst (λ n. AreWide n c.deref-6.result.now) (ap (λ xs. length xs) c.deref-3.ensures.value ∙ sym width)
     (subst (AreWide (length c.deref-3.result.now)) (sym rows) c.work_entering.ensures.spare_wide)
 
-pub take_all_over-requires-clause-column : goal.take_all_over-requires-clause-column
-take_all_over-requires-clause-column g c =
+pub take_all_over-requires-clause-elimination : goal.take_all_over-requires-clause-elimination
+take_all_over-requires-clause-elimination g c =
     let a = c.self.inside in
     let next = subst (λ (t : Plain). IsNextOf c.args.inst.now t (Swap c.args.q c.args.position c.args.end)) (sym c.self.view_is) c.requires.next in
     let column = swap_column c.args.inst.now (plain_of a) next.0 next.1 c.args.q c.args.position c.args.end next.2 in
     let by = c.deref-4.ensures.value ∙ with_items_is a.pivot_row c.work_entering.new.by (c.work_entering.auto.by ∙ c.deref_mut-2.ensures.len) in
     let width = ap (λ xs. length xs) by ∙ c.work_entering.auto.by ∙ ap (λ xs. length xs) c.deref_mut-2.ensures.value ∙ c.self.invariant.pivot_row in
-    subst (λ n. c.args.q < n) (sym next.1.sized.costs ∙ sym width) column
-
-pub take_all_over-requires-clause-support : goal.take_all_over-requires-clause-support
-take_all_over-requires-clause-support g c =
-    let a = c.self.inside in
-    let by = c.deref-4.ensures.value ∙ with_items_is a.pivot_row c.work_entering.new.by (c.work_entering.auto.by ∙ c.deref_mut-2.ensures.len) in
     let columns = c.deref-5.ensures.value ∙ with_items_is a.support c.work_entering.new.support (c.work_entering.auto.support ∙ c.deref_mut-3.ensures.len) in
-    subst (λ xs. IsSupport c.deref-4.result.now (take c.in_ok-count.count xs)) (sym columns)
-    (subst (λ line. IsSupport line (take c.in_ok-count.count c.work_entering.new.support)) (sym by) c.in_ok-count.ensures.support.1)
+    let many = ap (λ xs. length xs) columns ∙ c.work_entering.auto.support ∙ ap (λ xs. length xs) c.deref_mut-3.ensures.value ∙ c.self.invariant.support in
+    record {
+      column = subst (λ n. c.args.q < n) (sym next.1.sized.costs ∙ sym width) column;
+      support = subst (λ xs. IsSupport c.deref-4.result.now (take c.in_ok-count.count xs)) (sym columns)
+          (subst (λ line. IsSupport line (take c.in_ok-count.count c.work_entering.new.support)) (sym by) c.in_ok-count.ensures.support.1);
+      within = omega (arith, length-take c.in_ok-count.count c.deref-5.result.now, many, width);
+    }
 
 pub after-requires : goal.after-requires
 after-requires g c =

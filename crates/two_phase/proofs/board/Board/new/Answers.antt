@@ -15,18 +15,9 @@ returns-in-Ok-clause-stands g c =
 pub returns-in-Ok-clause-built : goal.returns-in-Ok-clause-built
 returns-in-Ok-clause-built g c = stands_built (g.A.Arith.width c.args.arith) _ (returns-in-Ok-clause-stands g c)
 
-pub returns-in-Ok-clause-factors : goal.returns-in-Ok-clause-factors
-returns-in-Ok-clause-factors g c calm = c.in-Ok.ensures.factors (subst (IsCalm (g.A.Arith.width c.args.arith)) (sym c.deref.ensures) calm)
-
-pub returns-in-Ok-clause-fits : goal.returns-in-Ok-clause-fits
-returns-in-Ok-clause-fits g c calm = c.in-Ok.ensures.fits (subst (IsCalm (g.A.Arith.width c.args.arith)) (sym c.deref.ensures) calm)
-
 pub returns-in-Ok-clause-work : goal.returns-in-Ok-clause-work
-returns-in-Ok-clause-work g c calm =
-    subst (λ i. g.A.Arith.work_count c.begin.new.arith ≤ g.A.Arith.work_count c.args.arith + (stored_entries i + making_work i)) c.deref.ensures
-    (c.in-Ok.ensures.work (subst (IsCalm (g.A.Arith.width c.args.arith)) (sym c.deref.ensures) calm))
+returns-in-Ok-clause-work g c =
+    subst (λ i. g.A.Arith.work_count c.begin.new.arith ≤ g.A.Arith.work_count c.args.arith + (stored_entries i + making_work i)) c.deref.ensures c.in-Ok.ensures.work
 
 pub returns-in-Err-clause-refused : goal.returns-in-Err-clause-refused
-returns-in-Err-clause-refused g c calm =
-    let there = subst (IsCalm (g.A.Arith.width c.args.arith)) (sym c.deref.ensures) calm in
-    (c.in-Err.ensures.memory there, c.in-Err.ensures.fits there)
+returns-in-Err-clause-refused g c calm = c.in-Err.ensures.refused (subst (IsCalm (g.A.Arith.width c.args.arith)) (sym c.deref.ensures) calm)

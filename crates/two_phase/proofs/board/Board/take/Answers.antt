@@ -1,9 +1,11 @@
 use Rattle.std.proofs.Common.{◌+◌, ◌≤◌, IfSome, sym, subst}
 use Rattle.lp_run.specs.Instance.{row_count}
-use Rattle.two_phase.specs.Board.{BoardStands, IsTakingCause}
+use Rattle.two_phase.specs.Board.{BoardStands}
+use Rattle.two_phase.specs.Inner.Recording.{IsTakingCause}
 use Rattle.two_phase.proofs.Boards.{records_after, stands_after, stands_built, stands_still, taking_cause, unmoved_after}
 use Rattle.two_phase.specs.Inner.Grounds.{GroundRescues, HasCause}
-use Rattle.two_phase.specs.Inner.Works.{ground_owed, ground_updates, move_work, reached_work, recorded_work}
+use Rattle.two_phase.specs.Works.{ground_owed, move_work, recorded_work}
+use Rattle.two_phase.specs.Inner.Works.{ground_updates, reached_work}
 use Rattle.two_phase.proofs.Spending.{recorded_spent, updates_there}
 use Rattle.two_phase.proofs.board.Board.take.Goals as goal
 

@@ -1,11 +1,12 @@
-use Rattle.std.proofs.Common.{◌≡◌, inr, None, sym, ◌∙◌, ap, subst, arith}
+use Rattle.std.proofs.Common.{◌≡◌, None, sym, ◌∙◌, ap, subst, arith}
 use Rattle.rational.specs.Worked.{settle}
 use Rattle.lp_run.specs.Solution.{Values}
 use Rattle.lp_run.specs.State.{start_of}
 use Rattle.factor_run.specs.Built.{made_anew}
+use Rattle.factor_run.proofs.Starting.{start-settles}
 use Rattle.plain_table.proofs.Coming.{handed_on}
+use Rattle.two_phase.specs.Board.{StartsUnfit}
 use Rattle.two_phase.specs.Inner.Factoring.{FactorsFrom}
-use Rattle.two_phase.specs.Inner.Reaching.{IsUnstarted}
 use Rattle.two_phase.specs.Inner.Refusals.{Explains}
 use Rattle.two_phase.proofs.Following.{explained}
 use Rattle.two_phase.proofs.Starting.{start_basis, started_iterate}
@@ -20,8 +21,8 @@ returns-in_err-factors-clause-refusal g c =
     let w = g.A.Arith.width c.args.arith.now in
     let inst = c.args.inst.now in
     let basis = start_basis inst c.basis.result.now (c.basis.ensures ∙ ap (λ s. s.basis) c.in_ok-state.ensures) in
-    handed_on _ (Explains (IsUnstarted w inst)) c.from_residual-in_err-factors.ensures.1
-    (explained c.in_err-factors.field-0.0 (λ none. inr (subst (λ w. settle w (made_anew inst (start_of inst) 0) ≡ None) c.in_ok-values.ensures.width none))
+    handed_on _ (Explains (StartsUnfit w inst)) c.from_residual-in_err-factors.ensures.1
+    (explained c.in_err-factors.field-0.0 (λ none. absurd (start-settles w inst (subst (λ w. settle w (made_anew inst (start_of inst) 0) ≡ None) c.in_ok-values.ensures.width none)))
     (c.in_err-factors.ensures.refusal (start_of inst) basis))
 
 pub returns-clause-stands : goal.returns-clause-stands
