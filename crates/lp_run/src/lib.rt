@@ -8,7 +8,6 @@
 //!   each stated by its equations.
 //! - `Step`, `Run`, `Ends`: the next entry, the run, and the outcome that its end gives.
 //! - `Listing`: the values that the plain table works, in order, each with its place.
-//! - `Simple`: the decks whose start is feasible.
 //! - `Tableau`: inner, the plain table as its laws need it.
 //!
 //! Proved of them: every state of a run has a table, so it is regular; there is one run; a pivot

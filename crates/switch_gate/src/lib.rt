@@ -9,7 +9,7 @@
 //! when the pass saw it last, and `mine`, the numbers that its own sessions added (`parts_of`, `seen_of`, `mine_of` in
 //! `specs/Passes.antt`). A [`Held`] is the value while it is out, with the pass that took it.
 //!
-//! **Contract.** `take` finds a value whose number is the gate's count, at least the pass's `seen`, and whose lineage is
+//! **Contract.** `take` finds a value whose number is at least the pass's `seen`, and whose lineage is
 //! that of the value that the gate was made with. After `give`, `seen` is the value's number, and `mine` has gained
 //! exactly the numbers from the old one to one below the new. `split` and `join` share parts out among threads.
 //! `close` with all parts gives the value back, and each number below the value's stands in `mine`, once, and no other:

@@ -6,7 +6,7 @@
 //! makes `pivoted` of a table (the Gauss-Jordan step).
 //!
 //! **Laws.** `started`: the first table stands at the start. `swapped`, `flipped`, `turned`: the changed table stands at the
-//! state after the entry. `one_listing`: the values that a log lists, with their places, are determined.
+//! state after the entry. `fitted-start`, `fitted-more`: where what is worked fits, so does what the run lists (`HasFitted`).
 //!
 //! The crate has no code. It stands on `lp_run` and the laws of states (`bland_laws`).
 #![tactic(auto)]
