@@ -41,7 +41,6 @@ pub fn endless()
 
 /// Prices that prove an optimum leave no ray, in this deck and in each that differs from it in right sides alone: its
 /// feasible points, if it has any, are bounded in their objectives.
-#[tactic(auto, using(crate::proofs::OtherRights::bounded))]
 pub fn bounded()
     ensures { (d d' : Deck) (x y x' r : List ℚ) → Proves d x y → IsSameButRights d d' → Ray d' x' r → ⊥ }
 {}
