@@ -3,3 +3,4 @@ pub mod Senses
 pub mod WeakDuality
 pub mod FarkasGap
 pub mod AlongRays
+pub mod OtherRights

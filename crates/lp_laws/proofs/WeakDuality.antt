@@ -29,11 +29,11 @@ tight c x x' i low high within =
 
 module _ (d : Deck) (y : List ℚ) where
   -- the reduced costs of a list of numbers, as the sense counts them
-  abbrev reduced_part : List ℚ → ℚ
+  abbrev pub reduced_part : List ℚ → ℚ
   reduced_part z = sum_ℚ (length d.columns) (λ j. in_sense d.sense (reduced_cost d y j) *ℚ at z j)
 
   -- the prices of its activities, as the sense counts them
-  abbrev price_part : List ℚ → ℚ
+  abbrev pub price_part : List ℚ → ℚ
   price_part z = sum_ℚ (length d.rows) (λ i. in_sense d.sense (at y i) *ℚ activity d z i)
 
   -- a cost is that of the reduced costs and that of the prices
@@ -44,7 +44,7 @@ module _ (d : Deck) (y : List ℚ) where
       ∙ sum-add (length d.columns) (λ j. reduced_cost d y j *ℚ at z j) (λ j. weighted_column d y j *ℚ at z j)
       ∙ ap (λ s. sum_ℚ (length d.columns) (λ j. reduced_cost d y j *ℚ at z j) +ℚ s) (weighted_part d y z)
 
-  parts : (z : List ℚ) → in_sense d.sense (cost_at d z) ≡ reduced_part z +ℚ price_part z
+  pub parts : (z : List ℚ) → in_sense d.sense (cost_at d z) ≡ reduced_part z +ℚ price_part z
   parts z =
       ap (in_sense d.sense) (cost_parts z) ∙ in_sense-+ d.sense (sum_ℚ (length d.columns) (λ j. reduced_cost d y j *ℚ at z j)) (priced_part d y z)
       ∙ ap₂ ◌+ℚ◌ (in_sense-products d.sense (length d.columns) (reduced_cost d y) (at z)) (in_sense-products d.sense (length d.rows) (at y) (activity d z))

@@ -7,6 +7,7 @@
 //! - [`gap`]: a deck that has a Farkas row has no feasible point.
 //! - [`endless`]: a deck that has a feasible point with a ray has, for each number, a feasible point
 //!   whose objective is better than it.
+//! - [`bounded`]: a deck whose optimum is proved by prices has no ray, whatever its right sides are changed to.
 //!
 //! None asks how its list was found, so whoever has a deck and a list may check an answer. That each
 //! deck has one of the three lists is a law of its run, in `bland_laws`.
@@ -16,6 +17,7 @@
 
 ghost use Rattle.std.specs.Prelude.{List};
 ghost use Rattle.lp_model.specs.Certificate.{Farkas, Proves, Ray};
+ghost use Rattle.lp_laws.specs.Rights.{IsSameButRights};
 ghost use Rattle.lp_model.specs.Deck.{Deck, IsFeasible, IsOptimal, in_sense, objective};
 ghost use Rattle.rational.specs.Rational.{ℚ, ◌<ℚ◌};
 
@@ -35,4 +37,10 @@ pub fn gap()
 #[tactic(auto, using(crate::proofs::AlongRays::endless))]
 pub fn endless()
     ensures { (d : Deck) (x r : List ℚ) → Ray d x r → (v : ℚ) → (x' : List ℚ) × IsFeasible d x' × (in_sense d.sense (objective d x') <ℚ v) }
+{}
+
+/// Prices that prove an optimum leave no ray, in this deck and in each that differs from it in right sides alone: its
+/// feasible points, if it has any, are bounded in their objectives.
+pub fn bounded()
+    ensures { (d d' : Deck) (x y x' r : List ℚ) → Proves d x y → IsSameButRights d d' → Ray d' x' r → ⊥ }
 {}
