@@ -240,10 +240,8 @@ fn costs_nothing<A: Arith>(
     if !asked {
         return Ok(true);
     }
-    match sum_by(deck, priced, y, j, arith) {
-        Ok(cost) => Ok(cost.is_zero()),
-        Err(unfit) => Err(unfit),
-    }
+    let cost = sum_by(deck, priced, y, j, arith)?;
+    Ok(cost.is_zero())
 }
 
 // The number of a basic column that is 0.

@@ -73,10 +73,9 @@ fn with_basis<R: Threads + Sync, A: Arith>(
     ensures width { A.width arith.new ≡ A.width arith.old }
     ensures unfit { A.unfit_count arith.new ≡ unfit_after_check (A.unfit_count arith.old) result }
 {
-    match walked(rt, alloc, deck, outcome, arith) {
-        Ok(Verdict::Yes) => told(alloc, deck, outcome, basis, arith),
-        Ok(Verdict::No(rule)) => Ok(Verdict::No(rule)),
-        Err(fault) => Err(fault),
+    match walked(rt, alloc, deck, outcome, arith)? {
+        Verdict::Yes => told(alloc, deck, outcome, basis, arith),
+        Verdict::No(rule) => Ok(Verdict::No(rule)),
     }
 }
 

@@ -222,10 +222,8 @@ fn span_below<A: Arith>(b: Frac, r: Frac, arith: &mut A) -> Result<Ends, Unfit>
     ensures width { A.width arith.new ≡ A.width arith.old }
     ensures unfit { A.unfit_count arith.new ≡ unfit_after (A.unfit_count arith.old) result }
 {
-    match arith.sub(b, r) {
-        Ok(lower) => Ok(Ends::new(Some(lower), Some(b))),
-        Err(unfit) => Err(unfit),
-    }
+    let lower = arith.sub(b, r)?;
+    Ok(Ends::new(Some(lower), Some(b)))
 }
 
 // The interval from a number to so far above it.
@@ -234,10 +232,8 @@ fn span_above<A: Arith>(b: Frac, r: Frac, arith: &mut A) -> Result<Ends, Unfit>
     ensures width { A.width arith.new ≡ A.width arith.old }
     ensures unfit { A.unfit_count arith.new ≡ unfit_after (A.unfit_count arith.old) result }
 {
-    match arith.add(b, r) {
-        Ok(upper) => Ok(Ends::new(Some(b), Some(upper))),
-        Err(unfit) => Err(unfit),
-    }
+    let upper = arith.add(b, r)?;
+    Ok(Ends::new(Some(b), Some(upper)))
 }
 
 // The size of a fraction.

@@ -29,10 +29,8 @@ pub(crate) fn column<A: Arith>(
     ensures width { A.width arith.new ≡ A.width arith.old }
     ensures unfit { A.unfit_count arith.new ≡ unfit_after (A.unfit_count arith.old) result }
 {
-    match arith.fit(x[j]) {
-        Ok(value) => Ok(column_ends(deck, j).contains(value)),
-        Err(unfit) => Err(unfit),
-    }
+    let value = arith.fit(x[j])?;
+    Ok(column_ends(deck, j).contains(value))
 }
 
 // The activity of a row: the one that is worked ahead, where there is one.
@@ -70,10 +68,8 @@ pub(crate) fn row<A: Arith>(
     ensures width { A.width arith.new ≡ A.width arith.old }
     ensures unfit { A.unfit_count arith.new ≡ unfit_after (A.unfit_count arith.old) result }
 {
-    match activity_of(deck, x, ahead, i, arith) {
-        Ok(activity) => lies_within(deck, i, activity, arith),
-        Err(unfit) => Err(unfit),
-    }
+    let activity = activity_of(deck, x, ahead, i, arith)?;
+    lies_within(deck, i, activity, arith)
 }
 
 // Whether an activity lies within its row's interval.
@@ -88,10 +84,8 @@ fn lies_within<A: Arith>(
     ensures width { A.width arith.new ≡ A.width arith.old }
     ensures unfit { A.unfit_count arith.new ≡ unfit_after (A.unfit_count arith.old) result }
 {
-    match activity_ends(deck, i, arith) {
-        Ok(ends) => Ok(ends.contains(activity)),
-        Err(unfit) => Err(unfit),
-    }
+    let ends = activity_ends(deck, i, arith)?;
+    Ok(ends.contains(activity))
 }
 
 /// The stated objective is that of the point.
@@ -106,10 +100,8 @@ pub(crate) fn stated_objective<A: Arith>(
     ensures width { A.width arith.new ≡ A.width arith.old }
     ensures unfit { A.unfit_count arith.new ≡ unfit_after (A.unfit_count arith.old) result }
 {
-    match objective(deck, x, arith) {
-        Ok(value) => Ok(value == stated),
-        Err(unfit) => Err(unfit),
-    }
+    let value = objective(deck, x, arith)?;
+    Ok(value == stated)
 }
 
 /// The reduced cost of a column is on the side of 0 that its value allows.
@@ -127,16 +119,12 @@ pub(crate) fn reduced_cost<A: Arith>(
     ensures width { A.width arith.new ≡ A.width arith.old }
     ensures unfit { A.unfit_count arith.new ≡ unfit_after (A.unfit_count arith.old) result }
 {
-    match reduced(deck, y, j, arith) {
-        Ok(cost) => {
-            let ends = column_ends(deck, j);
-            let value = x[j];
-            let lower = is_at_end(ends.lower(), value);
-            let upper = is_at_end(ends.upper(), value);
-            Ok(allows(in_sense(deck.sense(), cost), lower, upper))
-        }
-        Err(unfit) => Err(unfit),
-    }
+    let cost = reduced(deck, y, j, arith)?;
+    let ends = column_ends(deck, j);
+    let value = x[j];
+    let lower = is_at_end(ends.lower(), value);
+    let upper = is_at_end(ends.upper(), value);
+    Ok(allows(in_sense(deck.sense(), cost), lower, upper))
 }
 
 /// The price of a row is on the side of 0 that its activity allows.
@@ -156,13 +144,9 @@ pub(crate) fn price<A: Arith>(
     ensures width { A.width arith.new ≡ A.width arith.old }
     ensures unfit { A.unfit_count arith.new ≡ unfit_after (A.unfit_count arith.old) result }
 {
-    match activity_of(deck, x, ahead, i, arith) {
-        Ok(activity) => {
-            let price = in_sense(deck.sense(), y[i]);
-            allows_price(deck, i, price, activity, arith)
-        }
-        Err(unfit) => Err(unfit),
-    }
+    let activity = activity_of(deck, x, ahead, i, arith)?;
+    let price = in_sense(deck.sense(), y[i]);
+    allows_price(deck, i, price, activity, arith)
 }
 
 // Whether an activity allows a price, as the sense counts it.
@@ -178,14 +162,10 @@ fn allows_price<A: Arith>(
     ensures width { A.width arith.new ≡ A.width arith.old }
     ensures unfit { A.unfit_count arith.new ≡ unfit_after (A.unfit_count arith.old) result }
 {
-    match activity_ends(deck, i, arith) {
-        Ok(ends) => {
-            let lower = is_at_end(ends.lower(), activity);
-            let upper = is_at_end(ends.upper(), activity);
-            Ok(allows(price, lower, upper))
-        }
-        Err(unfit) => Err(unfit),
-    }
+    let ends = activity_ends(deck, i, arith)?;
+    let lower = is_at_end(ends.lower(), activity);
+    let upper = is_at_end(ends.upper(), activity);
+    Ok(allows(price, lower, upper))
 }
 
 /// The greatest contribution of a column is finite.
@@ -201,10 +181,8 @@ pub(crate) fn endless_column<A: Arith>(
     ensures width { A.width arith.new ≡ A.width arith.old }
     ensures unfit { A.unfit_count arith.new ≡ unfit_after (A.unfit_count arith.old) result }
 {
-    match column_part(deck, y, j, arith) {
-        Ok(part) => Ok(part.is_some()),
-        Err(unfit) => Err(unfit),
-    }
+    let part = column_part(deck, y, j, arith)?;
+    Ok(part.is_some())
 }
 
 /// The greatest contribution of the logical of a row is finite.
@@ -220,10 +198,8 @@ pub(crate) fn endless_row<A: Arith>(
     ensures width { A.width arith.new ≡ A.width arith.old }
     ensures unfit { A.unfit_count arith.new ≡ unfit_after (A.unfit_count arith.old) result }
 {
-    match logical_part(deck, y, i, arith) {
-        Ok(part) => Ok(part.is_some()),
-        Err(unfit) => Err(unfit),
-    }
+    let part = logical_part(deck, y, i, arith)?;
+    Ok(part.is_some())
 }
 
 /// All greatest contributions together are less than the combination of the right sides.
@@ -233,10 +209,8 @@ pub(crate) fn gap<A: Arith>(deck: &Deck, y: &[Frac], arith: &mut A) -> Result<bo
     ensures width { A.width arith.new ≡ A.width arith.old }
     ensures unfit { A.unfit_count arith.new ≡ unfit_after (A.unfit_count arith.old) result }
 {
-    match all_parts(deck, y, arith) {
-        Ok(most) => is_exceeded(deck, y, most, arith),
-        Err(unfit) => Err(unfit),
-    }
+    let most = all_parts(deck, y, arith)?;
+    is_exceeded(deck, y, most, arith)
 }
 
 // Whether the combination of the right sides is greater than a number.
@@ -246,10 +220,8 @@ fn is_exceeded<A: Arith>(deck: &Deck, y: &[Frac], most: Frac, arith: &mut A) -> 
     ensures width { A.width arith.new ≡ A.width arith.old }
     ensures unfit { A.unfit_count arith.new ≡ unfit_after (A.unfit_count arith.old) result }
 {
-    match right_side(deck, y, arith) {
-        Ok(right) => Ok(is_less(most, right)),
-        Err(unfit) => Err(unfit),
-    }
+    let right = right_side(deck, y, arith)?;
+    Ok(is_less(most, right))
 }
 
 // Whether one number is less than another.
@@ -273,13 +245,9 @@ pub(crate) fn ray_column<A: Arith>(
     ensures width { A.width arith.new ≡ A.width arith.old }
     ensures unfit { A.unfit_count arith.new ≡ unfit_after (A.unfit_count arith.old) result }
 {
-    match arith.fit(ray[j]) {
-        Ok(item) => {
-            let ends = column_ends(deck, j);
-            Ok(allows(item, ends.upper().is_none(), ends.lower().is_none()))
-        }
-        Err(unfit) => Err(unfit),
-    }
+    let item = arith.fit(ray[j])?;
+    let ends = column_ends(deck, j);
+    Ok(allows(item, ends.upper().is_none(), ends.lower().is_none()))
 }
 
 /// The activity of a ray is on a side of 0 on which the row's interval has no end.
@@ -297,10 +265,8 @@ pub(crate) fn ray_row<A: Arith>(
     ensures width { A.width arith.new ≡ A.width arith.old }
     ensures unfit { A.unfit_count arith.new ≡ unfit_after (A.unfit_count arith.old) result }
 {
-    match activity_of(deck, ray, ahead, i, arith) {
-        Ok(activity) => Ok(allows(activity, is_open_above(deck, i), is_open_below(deck, i))),
-        Err(unfit) => Err(unfit),
-    }
+    let activity = activity_of(deck, ray, ahead, i, arith)?;
+    Ok(allows(activity, is_open_above(deck, i), is_open_below(deck, i)))
 }
 
 /// The cost gets better along a ray.
@@ -311,8 +277,6 @@ pub(crate) fn ray_cost<A: Arith>(deck: &Deck, ray: &[Frac], arith: &mut A) -> Re
     ensures width { A.width arith.new ≡ A.width arith.old }
     ensures unfit { A.unfit_count arith.new ≡ unfit_after (A.unfit_count arith.old) result }
 {
-    match costs(deck, Frac::ZERO, ray, arith) {
-        Ok(cost) => Ok(in_sense(deck.sense(), cost) < Frac::ZERO),
-        Err(unfit) => Err(unfit),
-    }
+    let cost = costs(deck, Frac::ZERO, ray, arith)?;
+    Ok(in_sense(deck.sense(), cost) < Frac::ZERO)
 }

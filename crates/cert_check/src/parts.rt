@@ -26,10 +26,8 @@ pub(crate) fn column_part<A: Arith>(
     ensures width { A.width arith.new ≡ A.width arith.old }
     ensures unfit { A.unfit_count arith.new ≡ unfit_after (A.unfit_count arith.old) result }
 {
-    match weighted(deck, y, column, arith) {
-        Ok(c) => greatest(c, column_ends(deck, column), arith),
-        Err(unfit) => Err(unfit),
-    }
+    let c = weighted(deck, y, column, arith)?;
+    greatest(c, column_ends(deck, column), arith)
 }
 
 /// The greatest contribution of the logical of a row, where it is finite.
@@ -71,10 +69,7 @@ fn scaled<A: Arith>(c: Frac, end: Option<Frac>, arith: &mut A) -> Result<Option<
 {
     match end {
         None => Ok(None),
-        Some(end) => match product(c, end, arith) {
-            Ok(value) => Ok(Some(value)),
-            Err(unfit) => Err(unfit),
-        },
+        Some(end) => Ok(Some(product(c, end, arith)?)),
     }
 }
 
@@ -123,10 +118,8 @@ fn with_column<A: Arith>(
     ensures width { A.width arith.new ≡ A.width arith.old }
     ensures unfit { A.unfit_count arith.new ≡ unfit_after (A.unfit_count arith.old) result }
 {
-    match column_part(deck, y, column, arith) {
-        Ok(part) => plus(sum, part, arith),
-        Err(unfit) => Err(unfit),
-    }
+    let part = column_part(deck, y, column, arith)?;
+    plus(sum, part, arith)
 }
 
 // A sum with the greatest contribution of the logical of a row.
@@ -143,10 +136,8 @@ fn with_logical<A: Arith>(
     ensures width { A.width arith.new ≡ A.width arith.old }
     ensures unfit { A.unfit_count arith.new ≡ unfit_after (A.unfit_count arith.old) result }
 {
-    match logical_part(deck, y, row, arith) {
-        Ok(part) => plus(sum, part, arith),
-        Err(unfit) => Err(unfit),
-    }
+    let part = logical_part(deck, y, row, arith)?;
+    plus(sum, part, arith)
 }
 
 // A sum with a part; a part that is 0, or not finite, adds nothing.

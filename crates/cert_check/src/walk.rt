@@ -1,13 +1,13 @@
 //! The walk over the items of an outcome, up to the first that stops it.
-ghost use Rattle.std.specs.Prelude.{◌≡◌, ◌<◌, ◌≤◌, ◌-◌, ◌^◌};
+ghost use Rattle.std.specs.Prelude.{◌≡◌, ◌<◌, ◌^◌};
 ghost use Rattle.std.specs.Thread.{IsSync};
 ghost use Rattle.exact_frac.specs.Count.{unfit_after};
 ghost use Rattle.exact_frac.specs.Settles.{Settles};
 ghost use Rattle.lp_model.specs.Deck.{IsDeck};
-ghost use Rattle.cert_check.specs.Inner.Groups.{AreGiven, CanLook, FirstIs, IsAhead, Looks, count_of, items_of, rule_of, stopped, sums_of, unfit_by, verdict_of};
+ghost use Rattle.cert_check.specs.Inner.Groups.{AreGiven, CanLook, FirstIs, IsAhead, Looks, claimed, count_of, items_of, rule_of, stopped, sums_of, unfit_by, verdict_of};
 ghost use Rattle.cert_check.specs.Walk.{first_stop};
 
-use crate::groups::Group;
+use crate::groups::{Claim, Group};
 use crate::items::{
     column, endless_column, endless_row, price, ray_column, ray_row, reduced_cost, row,
 };
@@ -48,23 +48,22 @@ fn count_of(deck: &Deck, group: Group) -> usize
     }
 }
 
-// What a group's item works, and whether it holds.
-fn sums_of<A: Arith>(
-    deck: &Deck,
-    group: Group,
-    x: &[Frac],
-    y: &[Frac],
-    ahead: &[Frac],
-    k: usize,
-    arith: &mut A,
-) -> Result<bool, Unfit>
-    requires item { k < count_of group deck.now }
-    requires given { AreGiven group deck.now x.now y.now }
-    requires ahead { IsAhead (A.width arith.old) deck.now x.now ahead.now }
-    ensures settled { Settles (A.width arith.old) (sums_of group deck.now x.now y.now k) result }
+// What a claim's item works, and whether it holds.
+fn sums_of<A: Arith>(claim: &Claim, k: usize, arith: &mut A) -> Result<bool, Unfit>
+    requires item { k < count_of claim.now.group claim.now.deck.now }
+    requires given { let c = claim.now in AreGiven c.group c.deck.now c.x.now c.y.now }
+    requires ahead { let c = claim.now in IsAhead (A.width arith.old) c.deck.now c.x.now c.ahead.now }
+    ensures settled { let c = claim.now in Settles (A.width arith.old) (sums_of c.group c.deck.now c.x.now c.y.now k) result }
     ensures width { A.width arith.new ≡ A.width arith.old }
     ensures unfit { A.unfit_count arith.new ≡ unfit_after (A.unfit_count arith.old) result }
 {
+    let Claim {
+        deck,
+        group,
+        x,
+        y,
+        ahead,
+    } = claim;
     match group {
         Group::Columns => column(deck, x, k, arith),
         Group::Rows => row(deck, x, ahead, k, arith),
@@ -88,29 +87,16 @@ pub(crate) fn judge(rule: Rule, sums: Result<bool, Unfit>) -> Result<(), Stop>
     }
 }
 
-// The items of a group from one number up to another.
-fn look<A: Arith>(
-    deck: &Deck,
-    group: Group,
-    x: &[Frac],
-    y: &[Frac],
-    ahead: &[Frac],
-    from: usize,
-    to: usize,
-    arith: &mut A,
-) -> Result<(), Stop>
-    requires ordered { from ≤ to }
-    requires within { to ≤ count_of group deck.now }
-    requires few { to < 2 ^ 32 }
-    requires given { AreGiven group deck.now x.now y.now }
-    requires ahead { IsAhead (A.width arith.old) deck.now x.now ahead.now }
-    ensures first { FirstIs (first_stop (A.width arith.old) (items_of group deck.now x.now y.now from (to - from))) result }
+// The items of a claim from one number up to another.
+fn look<A: Arith>(claim: &Claim, from: usize, to: usize, arith: &mut A) -> Result<(), Stop>
+    requires { CanLook (A.width arith.old) claim.now from to }
+    ensures first { FirstIs (first_stop (A.width arith.old) (claimed claim.now from to)) result }
     ensures width { A.width arith.new ≡ A.width arith.old }
     ensures unfit { A.unfit_count arith.new ≡ unfit_by (A.unfit_count arith.old) result }
 {
     for k in from..to {
-        let sums = sums_of(deck, group, x, y, ahead, k, arith);
-        judge(rule_of(group, k), sums)?;
+        let sums = sums_of(claim, k, arith);
+        judge(rule_of(claim.group, k), sums)?;
     }
     Ok(())
 }
@@ -124,54 +110,32 @@ fn depth_for(group: Group, count: usize) -> u32 {
     }
 }
 
-// The items of a group from one number up to another, by halves of halves in threads of their own while there is depth left.
+// The items of a claim from one number up to another, by halves of halves in threads of their own while there is depth left.
 // The answer and the counts are those of the items one after another.
 #[cycle(halves)]
 fn look_all<R: Threads + Sync, A: Arith>(
     rt: &R,
     depth: u32,
-    deck: &Deck,
-    group: Group,
-    x: &[Frac],
-    y: &[Frac],
-    ahead: &[Frac],
+    claim: &Claim,
     from: usize,
     to: usize,
     arith: &mut A,
 ) -> Result<(), Stop>
-    requires { CanLook (A.width arith.old) group deck.now x.now y.now ahead.now from to }
-    ensures first { FirstIs (first_stop (A.width arith.old) (items_of group deck.now x.now y.now from (to - from))) result }
+    requires { CanLook (A.width arith.old) claim.now from to }
+    ensures first { FirstIs (first_stop (A.width arith.old) (claimed claim.now from to)) result }
     ensures width { A.width arith.new ≡ A.width arith.old }
     ensures unfit { A.unfit_count arith.new ≡ unfit_by (A.unfit_count arith.old) result }
 {
     if depth == 0 || to - from < 2 {
-        return look(deck, group, x, y, ahead, from, to, arith);
+        return look(claim, from, to, arith);
     }
     let half = from + (to - from) / 2;
     let mut own = arith.fresh();
-    let (first, second) = look_halves(
-        rt,
-        depth - 1,
-        deck,
-        group,
-        x,
-        y,
-        ahead,
-        from,
-        half,
-        half,
-        to,
-        arith,
-        &mut own,
-    );
+    let (first, second) = look_halves(rt, depth - 1, claim, from, half, to, arith, &mut own);
     // (the counts of the second half are nobody's where the first is stopped, as in turn it would not be worked)
-    match first {
-        Ok(()) => {
-            arith.absorb(own);
-            second
-        }
-        Err(stop) => Err(stop),
-    }
+    first?;
+    arith.absorb(own);
+    second
 }
 
 // Both halves side by side, each with an arithmetic of its own.
@@ -179,33 +143,29 @@ fn look_all<R: Threads + Sync, A: Arith>(
 fn look_halves<R: Threads + Sync, A: Arith>(
     rt: &R,
     depth: u32,
-    deck: &Deck,
-    group: Group,
-    x: &[Frac],
-    y: &[Frac],
-    ahead: &[Frac],
+    claim: &Claim,
     from: usize,
     half: usize,
-    up: usize,
     to: usize,
     arith: &mut A,
     own: &mut A,
 ) -> (Result<(), Stop>, Result<(), Stop>)
-    requires low { CanLook (A.width arith.old) group deck.now x.now y.now ahead.now from half }
-    requires high { CanLook (A.width own.old) group deck.now x.now y.now ahead.now up to }
-    ensures low { Looks (A.width arith.old) (A.width arith.new) (A.unfit_count arith.old) (A.unfit_count arith.new) group deck.now x.now y.now from half result.0 }
-    ensures high { Looks (A.width own.old) (A.width own.new) (A.unfit_count own.old) (A.unfit_count own.new) group deck.now x.now y.now up to result.1 }
+    requires low { CanLook (A.width arith.old) claim.now from half }
+    requires high { CanLook (A.width own.old) claim.now half to }
+    ensures low { Looks (A.width arith.old) (A.width arith.new) (A.unfit_count arith.old) (A.unfit_count arith.new) claim.now from half result.0 }
+    ensures high { Looks (A.width own.old) (A.width own.new) (A.unfit_count own.old) (A.unfit_count own.new) claim.now half to result.1 }
 {
+    let up = half;
     let mut front = || -> Result<(), Stop>
-        requires { IsSync R.row × CanLook (A.width arith.now) group deck.now x.now y.now ahead.now from half }
+        requires { IsSync R.row × CanLook (A.width arith.now) claim.now from half }
         ensures { Looks (A.width arith.entry.now) (A.width arith.exit.now) (A.unfit_count arith.entry.now) (A.unfit_count arith.exit.now)
-            group deck.entry.now x.entry.now y.entry.now from half result }
-    { look_all(rt, depth, deck, group, x, y, ahead, from, half, arith) };
+            claim.entry.now from half result }
+    { look_all(rt, depth, claim, from, half, arith) };
     let mut back = || -> Result<(), Stop>
-        requires { IsSync R.row × CanLook (A.width own.now) group deck.now x.now y.now ahead.now up to }
+        requires { IsSync R.row × CanLook (A.width own.now) claim.now up to }
         ensures { Looks (A.width own.entry.now) (A.width own.exit.now) (A.unfit_count own.entry.now) (A.unfit_count own.exit.now)
-            group deck.entry.now x.entry.now y.entry.now up to result }
-    { look_all(rt, depth, deck, group, x, y, ahead, up, to, own) };
+            claim.entry.now up to result }
+    { look_all(rt, depth, claim, up, to, own) };
     join_mut(rt, &mut front, &mut back)
 }
 
@@ -228,7 +188,14 @@ pub(crate) fn each<R: Threads + Sync, A: Arith>(
 {
     let count = count_of(deck, group);
     let depth = depth_for(group, count);
-    look_all(rt, depth, deck, group, x, y, ahead, 0, count, arith)
+    let claim = Claim {
+        deck,
+        group,
+        x,
+        y,
+        ahead,
+    };
+    look_all(rt, depth, &claim, 0, count, arith)
 }
 
 /// What is answered where a walk ends so.

@@ -1,12 +1,13 @@
 -- What the parts of a solve come to, and how much they work.
-use Rattle.std.proofs.Common.{◌≡◌, ℕ, ◌+◌, ◌*◌, ◌<◌, ◌≤◌, List, [], ◌∷◌, length, reverse, Some, None, Result, Ok, Err, sym, ◌∙◌, ap, subst, arith}
+use Rattle.std.proofs.Common.{◌≡◌, ℕ, ◌+◌, ◌*◌, ◌<◌, ◌≤◌, List, [], ◌∷◌, length, reverse, Some, None, Result, Ok, Err, IsErrAnd, sym, ◌∙◌, ap, subst, arith}
 use Rattle.std.specs.Result.{OnOk}
 use Rattle.std.proofs.lemmas.List.{length-reverse}
+use Rattle.std.proofs.lemmas.Result.{err_from_is_err_and}
 use Rattle.std.proofs.lemmas.List.Sums.{sum_by-cons}
 use Rattle.rational.specs.Rational.{ℚ, zero_ℚ}
 use Rattle.rational.specs.Matrix.{matrix_times, times_matrix}
 use Rattle.rational.specs.Sum.{at}
-use Rattle.rational.specs.Worked.{done, bind, settle}
+use Rattle.rational.specs.Worked.{Worked, done, bind, settle}
 use Rattle.rational.proofs.Settling.{settle-done, settle-bind, settle-bind_none}
 use Rattle.rational.proofs.VectorLaws.{get-map-upto, length-map-upto}
 use Rattle.sparse_cols.specs.Sparse.{IsRising}
@@ -19,6 +20,10 @@ use Rattle.factor_model.specs.Vectors.{entry, vector}
 use Rattle.factor_model.proofs.FactorLaws.{ftran-spike, ftran-form, ftran-solves, btran-solves}
 use Rattle.ftran_btran.specs.Kept.{AreKept, size}
 use Rattle.factor_model.proofs.UpperShape.{order_length}
+
+-- what does not settle answers a refusal, which is handed on
+pub refused : {A B : Type 0} {e : Unfit} (w : ℕ) (c : Worked A) (r : Result B Unfit) (left : A) → settle w c ≡ None → IsErrAnd r (λ f. f ≡ e) → Leaves w c r left
+refused w c r left none is = let at = err_from_is_err_and r is in subst (λ s. Leaves w c s left) (sym at.1) none
 
 -- ---- for a column
 

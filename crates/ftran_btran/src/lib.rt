@@ -94,10 +94,8 @@ impl Factors {
         ensures unfit { A.unfit_count arith.new ≡ lu.count_after (A.unfit_count arith.old) result }
         ensures work { A.work_count arith.new ≤ A.work_count arith.old + m * m * m }
     {
-        match markowitz_lu::factor(alloc, m, columns, arith) {
-            Ok((etas, upper)) => Ok(Factors::of(etas, upper, base)),
-            Err(fault) => Err(fault),
-        }
+        let (etas, upper) = markowitz_lu::factor(alloc, m, columns, arith)?;
+        Ok(Factors::of(etas, upper, base))
     }
 
     /// The factors of these operations and this form, which have had no update, made at a number of the log.
@@ -106,6 +104,7 @@ impl Factors {
         requires few { AreFew (record { etas = etas; upper = upper; updates = 0; base = base }) }
         ensures { result ≡ record { etas = etas; upper = upper; updates = 0; base = base } }
     {
+        // (`len` says that the form is triangular, which the factors keep)
         let _ = upper.len();
         Factors {
             etas,
@@ -159,12 +158,9 @@ impl Factors {
         ensures unfit { A.unfit_count arith.new ≡ unfit_after (A.unfit_count arith.old) result }
         ensures work { A.work_count arith.new ≤ A.work_count arith.old + (stored self.now.etas + (size self.now * size self.now + size self.now)) }
     {
-        let _ = &self.updates;
         spread(column, spike);
-        match self.etas.apply(spike, arith) {
-            Ok(()) => self.upper.solve_keeping(spike, out, arith),
-            Err(unfit) => Err(unfit),
-        }
+        self.etas.apply(spike, arith)?;
+        self.upper.solve_keeping(spike, out, arith)
     }
 
     /// Solves y·B = c for the row `c`: `out` has y by row, and `work` the z with z·U = c. After `Unfit` both hold
@@ -185,14 +181,9 @@ impl Factors {
         ensures unfit { A.unfit_count arith.new ≡ unfit_after (A.unfit_count arith.old) result }
         ensures work { A.work_count arith.new ≤ A.work_count arith.old + (stored self.now.etas + (size self.now * size self.now + size self.now)) }
     {
-        let _ = &self.updates;
-        match self.upper.solve_back(c, work, arith) {
-            Ok(()) => {
-                copy(work, out);
-                self.etas.apply_back(out, arith)
-            }
-            Err(unfit) => Err(unfit),
-        }
+        self.upper.solve_back(c, work, arith)?;
+        copy(work, out);
+        self.etas.apply_back(out, arith)
     }
 
     /// Follows the exchange of the column of position `p`, whose new column's spike is given.
@@ -223,13 +214,9 @@ impl Factors {
         ensures unfit { A.unfit_count arith.new ≡ count_after (A.unfit_count arith.old) result }
         ensures work { A.work_count arith.new ≤ A.work_count arith.old + size self.old * size self.old }
     {
-        match ft_update::update(alloc, &mut self.etas, &mut self.upper, p, spike, arith) {
-            Ok(()) => {
-                self.updates += 1;
-                Ok(())
-            }
-            Err(fault) => Err(fault),
-        }
+        ft_update::update(alloc, &mut self.etas, &mut self.upper, p, spike, arith)?;
+        self.updates += 1;
+        Ok(())
     }
 }
 

@@ -30,14 +30,6 @@ impl LineBytes {
     {
         &self.list
     }
-
-    /// The list again, with the memory that it was made of.
-    pub fn into_list(self) -> Vec<u8>
-        ensures { result.items ≡ self }
-    {
-        let LineBytes { list } = self;
-        list
-    }
 }
 
 /// A line of an input.

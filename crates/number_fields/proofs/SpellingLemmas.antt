@@ -2,13 +2,12 @@
 use Rattle.std.proofs.Common.{◌≡◌, ℕ, zero, suc, ◌+◌, ◌-◌, ◌*◌, ◌<◌, ◌≤◌, List, [], ◌∷◌, ◌++◌, length, take, get_or, Option, None, Some, Result, Ok, Err, ℤ, nat_abs, Bool, true, false, cond, min, refl, sym, ◌∙◌, ap, ap₂, subst, arith, length-append, ◌^◌}
 use Rattle.std.specs.Prelude.{◌==◌, if◌then◌else◌, nat_lt, take_while}
 use Rattle.std.specs.List.{list_all}
-use Rattle.std.proofs.lemmas.Bool.{lt-ltb, ltb-true, and_from}
+use Rattle.std.proofs.lemmas.Bool.{lt-ltb, and_from}
 use Rattle.std.proofs.lemmas.List.{take_more}
 use Rattle.std.proofs.lemmas.List.Sums.{take_while-cons, fold-append}
 use Rattle.lp_text.specs.Digits.{digits_value, is_digit}
 use Rattle.rational.specs.Rational.{ℚ, ratio, ◌*ℚ◌}
 use Rattle.rational.specs.Width.{fits_width}
-use Rattle.exact_frac.proofs.Split.{nat_abs-signed}
 use Rattle.mps_model.specs.declared.FieldFault.{FieldFault}
 use Rattle.mps_model.specs.declared.FieldFault.TheVariants.{Exponent, Malformed, Unfit}
 use Rattle.mps_model.specs.NumberField.{leading_digits, decimals, after_digits, after_point, all_digits, unsigned, after_decimals, exponent_of, field_value, fitting, spelled_value, signed, is_negative, power_of_ten}

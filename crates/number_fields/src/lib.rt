@@ -42,11 +42,9 @@ pub fn field(bytes: &[u8]) -> Result<Frac, FieldFault>
     if whole.is_empty() && decimals.is_empty() {
         return Err(FieldFault::Malformed);
     }
-    match spelling::exponent(rest) {
-        Err(fault) => Err(fault),
-        Ok((down, size)) => match parts::value(negative, whole, decimals, down, size) {
-            None => Err(FieldFault::Unfit),
-            Some(value) => Ok(value),
-        },
+    let (down, size) = spelling::exponent(rest)?;
+    match parts::value(negative, whole, decimals, down, size) {
+        None => Err(FieldFault::Unfit),
+        Some(value) => Ok(value),
     }
 }

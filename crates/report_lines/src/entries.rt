@@ -31,10 +31,8 @@ pub fn entry(line: &[u8], columns: u32, positions: u32) -> Result<Entry, Flaw>
 fn flip(line: &[u8], columns: u32) -> Result<Entry, Flaw>
     ensures { MatchResult result (λ e. (line.now ≡ entry_line e) × IsWithin columns 0 e) (IsIndexFlaw (codes "FLIP") 0 columns line.now) }
 {
-    match index(line, b"FLIP", 0, columns) {
-        Ok(column) => Ok(Entry::Flip(column)),
-        Err(flaw) => Err(flaw),
-    }
+    let column = index(line, b"FLIP", 0, columns)?;
+    Ok(Entry::Flip(column))
 }
 
 fn swap(line: &[u8], columns: u32, positions: u32) -> Result<Entry, Flaw>

@@ -19,6 +19,7 @@ use Rattle.cert_check.specs.declared.verdict.CheckFault.{CheckFault}
 use Rattle.cert_check.specs.declared.verdict.CheckFault.TheVariants.{Overflow}
 use Rattle.cert_check.specs.declared.bases.Priced.{Priced}
 use Rattle.cert_check.specs.declared.bases.Priced.TheVariants.{ByCost, ByWeight}
+use Rattle.cert_check.specs.declared.groups.Claim.{Claim}
 use Rattle.cert_check.specs.declared.groups.Group.{Group}
 use Rattle.cert_check.specs.declared.groups.Group.TheVariants.{Columns, EndlessColumns, EndlessRows, Prices, RayColumns, RayRows, Reduced, Rows}
 use Rattle.cert_check.specs.Items.{allows, column_item, endless_column_item, endless_row_item, is_among, is_at_end, is_at_rest, is_within, price_item, ray_column_item, ray_row_item, reduced_item, row_item, zero_where}
@@ -130,17 +131,21 @@ unfit_by count (Ok _) = count
 unfit_by count (Err (Broken _)) = count
 unfit_by count (Err (Unfit _)) = raised count 1
 
--- the items of a group from one number up to another can be looked at
-pub record CanLook (w : ℕ) (g : Group) (d : Deck) (x y sums : List ℚ) (from to : ℕ) : Type 0 where
-  pub ordered : from ≤ to
-  pub within : to ≤ count_of g d
-  pub few : to < 2 ^ 32
-  pub given : AreGiven g d x y
-  pub ahead : IsAhead w d x sums
+-- the items of a claim from one number up to another
+abbrev pub claimed : Claim → ℕ → ℕ → List Item
+claimed claim from to = items_of claim.group claim.deck.now claim.x.now claim.y.now from (to - from)
 
--- they are looked at one after another, with the counts of an arithmetic before and after
-pub record Looks (w w' unfit unfit' : ℕ) (g : Group) (d : Deck) (x y : List ℚ) (from to : ℕ) (result : Result (Unit {0}) Stop) : Type 0 where
-  pub first : FirstIs (first_stop w (items_of g d x y from (to - from))) result
+-- they can be looked at
+pub record CanLook (w : ℕ) (claim : Claim) (from to : ℕ) : Type 0 where
+  pub ordered : from ≤ to
+  pub within : to ≤ count_of claim.group claim.deck.now
+  pub few : to < 2 ^ 32
+  pub given : AreGiven claim.group claim.deck.now claim.x.now claim.y.now
+  pub ahead : IsAhead w claim.deck.now claim.x.now claim.ahead.now
+
+-- they are looked at one after another, with the width and the count of unfit results of an arithmetic before and after
+pub record Looks (w w' unfit unfit' : ℕ) (claim : Claim) (from to : ℕ) (result : Result (Unit {0}) Stop) : Type 0 where
+  pub first : FirstIs (first_stop w (claimed claim from to)) result
   pub width : w' ≡ w
   pub unfits : unfit' ≡ unfit_by unfit result
 
