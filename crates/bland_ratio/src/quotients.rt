@@ -62,17 +62,13 @@ fn limit_to<A: Arith>(
     ensures work { A.work_count arith.new ≤ A.work_count arith.old + 1 }
 {
     let Some(ahead) = ahead else { return Ok(None) };
-    match distance(value, ahead.0, ahead.1, arith) {
-        Ok(distance) => match arith.div(distance, alpha.abs()) {
-            Ok(ratio) => Ok(Some(Limit {
-                ratio,
-                column,
-                out: Some((position, ahead.1)),
-            })),
-            Err(unfit) => Err(unfit),
-        },
-        Err(unfit) => Err(unfit),
-    }
+    let distance = distance(value, ahead.0, ahead.1, arith)?;
+    let ratio = arith.div(distance, alpha.abs())?;
+    Ok(Some(Limit {
+        ratio,
+        column,
+        out: Some((position, ahead.1)),
+    }))
 }
 
 /// The limit of a position: none where its value stands still or has no end ahead. At most one quotient is worked.
@@ -124,12 +120,10 @@ pub fn own_limit<A: Arith>(bounds: Bounds, q: usize, arith: &mut A) -> Result<Op
     let Some(upper) = bounds.upper() else {
         return Ok(None)
     };
-    match arith.sub(upper, lower) {
-        Ok(ratio) => Ok(Some(Limit {
-            ratio,
-            column: q,
-            out: None,
-        })),
-        Err(unfit) => Err(unfit),
-    }
+    let ratio = arith.sub(upper, lower)?;
+    Ok(Some(Limit {
+        ratio,
+        column: q,
+        out: None,
+    }))
 }

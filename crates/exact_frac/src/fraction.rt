@@ -143,6 +143,7 @@ impl Frac {
     pub(crate) fn in_full(self) -> Result<Frac, Unfit>
         ensures { Exact 127 self result }
     {
+        // (a look at a field wakes the invariant, that both parts are below 2^127)
         let _ = &self.numer;
         Ok(self)
     }

@@ -75,11 +75,11 @@ fn multiplier<A: Arith>(
     ensures work { A.work_count arith.new ≤ A.work_count arith.old + (1 + length taken.now) }
 {
     let entry = upper.entry(row, s);
-    match less_entries(upper, s, entry, taken, arith) {
-        Ok(rest) if rest.is_zero() => Ok(rest),
-        Ok(rest) => arith.div(rest, upper.diagonal(s)),
-        Err(unfit) => Err(unfit),
+    let rest = less_entries(upper, s, entry, taken, arith)?;
+    if rest.is_zero() {
+        return Ok(rest);
     }
+    arith.div(rest, upper.diagonal(s))
 }
 
 // Keeps a multiplier with its row, which it flags, where it is not 0.
@@ -185,8 +185,6 @@ pub(crate) fn reduce<A: Arith>(
 {
     let row = upper.row_of(p);
     let item = spike[row];
-    match multipliers(upper, p, taken, flags, arith) {
-        Ok(()) => less_items(spike, item, taken, arith),
-        Err(unfit) => Err(unfit),
-    }
+    multipliers(upper, p, taken, flags, arith)?;
+    less_items(spike, item, taken, arith)
 }

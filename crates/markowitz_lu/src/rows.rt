@@ -65,10 +65,8 @@ fn fill(cross: &mut Cross, i: usize, p: usize, x: Frac) -> Result<(), Memory>
     if x.is_zero() {
         return Ok(());
     }
-    match cross.fill(i, p, x) {
-        Ok(_) => Ok(()),
-        Err(memory) => Err(memory),
-    }
+    cross.fill(i, p, x)?;
+    Ok(())
 }
 
 // Puts a value in row `i` and position `p`, where the entry at the link stands, if there is one.

@@ -189,10 +189,10 @@ impl Stage {
         } = self;
         match row {
             None => Ok((etas, Upper::of(columns, rows, order))),
-            Some(r) => match combination(alloc, m, r, &etas, arith) {
-                Ok(y) => Err(LuFault::Singular(y)),
-                Err(fault) => Err(fault),
-            },
+            Some(r) => {
+                let y = combination(alloc, m, r, &etas, arith)?;
+                Err(LuFault::Singular(y))
+            }
         }
     }
 }

@@ -127,13 +127,9 @@ pub fn eliminate_all<R: Threads + Sync, A: Arith>(
         high_out,
     );
     // (the counts of the second half are nobody's where the first is refused, as in turn it would not be worked)
-    match first {
-        Ok(()) => {
-            arith.absorb(own);
-            second
-        }
-        Err(place) => Err(place),
-    }
+    first?;
+    arith.absorb(own);
+    second
 }
 
 // Both halves side by side, each with an arithmetic of its own.

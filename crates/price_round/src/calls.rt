@@ -123,6 +123,7 @@ impl Round {
         ensures unfit { A.unfit_count arith.new ≡ unfit_where (A.unfit_count arith.old) (is_unfit result) }
         ensures work { A.work_count arith.new ≤ A.work_count arith.old + 64 * row_count (inst_of self.now) }
     {
+        // `rows` says that the instance is well formed, so a column has at most m entries: `work` stands on that.
         let _rows = self.inst.rows();
         let from = CHUNK * chunk as usize;
         let to = (from + CHUNK).min(self.inst.columns());

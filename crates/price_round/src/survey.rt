@@ -93,7 +93,5 @@ fn cut_at<J: Pieces>(
     ensures rest { token.new.me ≡ (glanced token.old.me.0.seen rest.now.value.me.0, token.old.me.1) }
     ensures piece { result.me ≡ (glanced token.old.me.0.seen piece.now.value.me.0, []) }
 {
-    let _ = rest;
-    let _ = piece;
     round.table.shared.split_seat::<Restore<J>>(token)
 }

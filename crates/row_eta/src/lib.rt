@@ -80,13 +80,9 @@ fn row<A: Arith>(p: usize, k: &SparseCol<Frac>, v: &mut [Frac], arith: &mut A) -
     ensures work { A.work_count arith.new ≤ A.work_count arith.old + length k.now.pairs }
 {
     let item = v[p];
-    match gather(p, v, item, k, arith) {
-        Ok(rest) => {
-            v[p] = rest;
-            Ok(())
-        }
-        Err(unfit) => Err(unfit),
-    }
+    let rest = gather(p, v, item, k, arith)?;
+    v[p] = rest;
+    Ok(())
 }
 
 fn operate<A: Arith>(op: &Op, v: &mut [Frac], arith: &mut A) -> Result<(), Unfit>

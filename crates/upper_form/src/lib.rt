@@ -183,10 +183,8 @@ impl Upper {
         if item.is_zero() {
             return Ok(());
         }
-        match arith.div(item, self.diagonal(p)) {
-            Ok(x) => self.place(p, row, x, v, arith),
-            Err(unfit) => Err(unfit),
-        }
+        let x = arith.div(item, self.diagonal(p))?;
+        self.place(p, row, x, v, arith)
     }
 
     // Takes x times the column of p from the vector, and leaves x in p's row.
@@ -206,13 +204,9 @@ impl Upper {
         ensures unfit { A.unfit_count arith.new ≡ unfit_after (A.unfit_count arith.old) result }
         ensures work { A.work_count arith.new ≤ A.work_count arith.old + length (upper.column self.now p) }
     {
-        match subtract(row, x, v, &self.columns[p], arith) {
-            Ok(()) => {
-                v[row] = x;
-                Ok(())
-            }
-            Err(unfit) => Err(unfit),
-        }
+        subtract(row, x, v, &self.columns[p], arith)?;
+        v[row] = x;
+        Ok(())
     }
 
     // The last position.
@@ -247,14 +241,11 @@ impl Upper {
         ensures unfit { A.unfit_count arith.new ≡ unfit_after (A.unfit_count arith.old) result }
         ensures work { A.work_count arith.new ≤ A.work_count arith.old + solve_work self.now (reverse self.now.order) }
     {
+        // (a look at a field wakes the invariant, that the form is triangular: `solves` stands on it)
         let _ = &self.columns;
-        match self.solve_in_rows(v, arith) {
-            Ok(()) => {
-                self.copy_by_position(v, out);
-                Ok(())
-            }
-            Err(unfit) => Err(unfit),
-        }
+        self.solve_in_rows(v, arith)?;
+        self.copy_by_position(v, out);
+        Ok(())
     }
 
     /// Solves U·x = v as `solve` does, and keeps the vector `v`. After `Unfit` both hold anything.
@@ -272,15 +263,12 @@ impl Upper {
         ensures unfit { A.unfit_count arith.new ≡ unfit_after (A.unfit_count arith.old) result }
         ensures work { A.work_count arith.new ≤ A.work_count arith.old + solve_work self.now (reverse self.now.order) }
     {
+        // (a look at a field wakes the invariant, that the form is triangular: by its pairs of rows and positions `v` comes back)
         let _ = &self.columns;
         self.copy_by_position(v, out);
-        match self.solve_in_rows(v, arith) {
-            Ok(()) => {
-                self.exchange(v, out);
-                Ok(())
-            }
-            Err(unfit) => Err(unfit),
-        }
+        self.solve_in_rows(v, arith)?;
+        self.exchange(v, out);
+        Ok(())
     }
 
     // Exchanges the item of each position's row with that of the position.
@@ -290,6 +278,7 @@ impl Upper {
         ensures positions { positions.new ≡ by_position self.now rows.old }
         ensures rows { by_position self.now rows.new ≡ positions.old }
     {
+        // (a look at a field wakes the invariant, that the form is triangular: so no row stands in two positions)
         let _ = &self.columns;
         for p in 0..positions.len() {
             let row = self.row_of(p);
@@ -326,6 +315,7 @@ impl Upper {
         ensures unfit { A.unfit_count arith.new ≡ unfit_after (A.unfit_count arith.old) result }
         ensures work { A.work_count arith.new ≤ A.work_count arith.old + solve_work self.now self.now.order }
     {
+        // (a look at a field wakes the invariant, that the form is triangular: `solves` stands on it)
         let _ = &self.columns;
         clear(out);
         let mut next = self.first();
@@ -355,11 +345,11 @@ impl Upper {
     {
         let row = self.row_of(p);
         let cost = c[p];
-        match gather(row, z, cost, &self.columns[p], arith) {
-            Ok(rest) if rest.is_zero() => Ok(rest),
-            Ok(rest) => arith.div(rest, self.diagonal(p)),
-            Err(unfit) => Err(unfit),
+        let rest = gather(row, z, cost, &self.columns[p], arith)?;
+        if rest.is_zero() {
+            return Ok(rest);
         }
+        arith.div(rest, self.diagonal(p))
     }
 
     // The first position.

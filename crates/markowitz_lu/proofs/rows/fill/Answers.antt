@@ -8,7 +8,7 @@ pub returns-then-is_zero : goal.returns-then-is_zero
 returns-then-is_zero c =
     put-none c.args.cross.now _ c.requires.matrix c.requires.no_zero c.args.i c.args.p c.args.x (c.is_zero.ensures.0 c.if-is_zero.true) c.requires.absent refl
 
-pub returns-in-Ok : goal.returns-in-Ok
-returns-in-Ok c =
-    put-filled c.args.cross.now c.fill.new.self c.requires.matrix c.in-Ok.ensures.matrix c.requires.no_zero _ c.args.i c.args.p c.args.x
-    (apart _ c.args.x c.is_zero.ensures c.if-is_zero.false) c.in-Ok.ensures.ok
+pub returns : goal.returns
+returns c =
+    put-filled c.args.cross.now c.fill.new.self c.requires.matrix c.in_ok-fill.ensures.matrix c.requires.no_zero _ c.args.i c.args.p c.args.x
+    (apart _ c.args.x c.is_zero.ensures c.if-is_zero.false) c.in_ok-fill.ensures.ok

@@ -1,5 +1,6 @@
 -- The parts are the form of the elimination, or its first row left gives the combination.
 use Rattle.std.proofs.Common.{◌≡◌, ℕ, Bool, false, List, Some, sym, ap, ◌∙◌, arith}
+use Rattle.std.proofs.lemmas.Result.{err_from_is_err_and}
 use Rattle.factor_model.specs.Factoring.{whole}
 use Rattle.factor_model.specs.Upper.{Triangle}
 use Rattle.cross_links.specs.Matrix.{is_active}
@@ -30,29 +31,31 @@ combination-requires-clause-row g c _ _ =
 pub combination-requires-clause-operations : goal.combination-requires-clause-operations
 combination-requires-clause-operations g c _ _ = are_ops c.args.m c.requires.kept.0 c.requires.kept.1 c.requires.kept.2 c.args.self c.requires.kept.3
 
-pub returns-in-Ok-clause-fault : goal.returns-in-Ok-clause-fault
-returns-in-Ok-clause-fault g c m0 e reached kept =
-    let r = c.in-Some.r in
-    let same = λ (i : ℕ). ap (λ (xs : List Bool). is_active xs i) (sym c.deref.ensures.value) in
-    let first = first_row c.args.m m0 e reached c.args.self kept r (same r ∙ c.in-Some.ensures.0) (λ i lt. same i ∙ c.in-Some.ensures.1 i lt) in
-    factored-singular c.args.m m0 e reached c.args.self kept (g.A.Arith.width c.args.arith.now) r first.0 first.1 c.in-Ok.y.items c.in-Ok.ensures.settled
-
-pub returns-in-Ok-clause-work : goal.returns-in-Ok-clause-work
-returns-in-Ok-clause-work g c m0 e reached kept =
-    let r = c.in-Some.r in
-    let same = λ (i : ℕ). ap (λ (xs : List Bool). is_active xs i) (sym c.deref.ensures.value) in
-    let first = first_row c.args.m m0 e reached c.args.self kept r (same r ∙ c.in-Some.ensures.0) (λ i lt. same i ∙ c.in-Some.ensures.1 i lt) in
-    omega (arith, back-work c.args.m m0 e reached c.args.self kept (g.A.Arith.width c.args.arith.now) r first.0 first.1, c.combination.ensures.work)
-
 pub returns-clause-fault : goal.returns-clause-fault
 returns-clause-fault g c m0 e reached kept =
     let r = c.in-Some.r in
     let same = λ (i : ℕ). ap (λ (xs : List Bool). is_active xs i) (sym c.deref.ensures.value) in
     let first = first_row c.args.m m0 e reached c.args.self kept r (same r ∙ c.in-Some.ensures.0) (λ i lt. same i ∙ c.in-Some.ensures.1 i lt) in
-    factored-stops c.args.m m0 e reached c.args.self kept (g.A.Arith.width c.args.arith.now) r first.0 first.1 c.in-Err.fault c.in-Err.ensures.fault
+    factored-singular c.args.m m0 e reached c.args.self kept (g.A.Arith.width c.args.arith.now) r first.0 first.1 c.in_ok-y-in-Some.y.items c.in_ok-y-in-Some.ensures.settled
 
 pub returns-clause-work : goal.returns-clause-work
 returns-clause-work g c m0 e reached kept =
+    let r = c.in-Some.r in
+    let same = λ (i : ℕ). ap (λ (xs : List Bool). is_active xs i) (sym c.deref.ensures.value) in
+    let first = first_row c.args.m m0 e reached c.args.self kept r (same r ∙ c.in-Some.ensures.0) (λ i lt. same i ∙ c.in-Some.ensures.1 i lt) in
+    omega (arith, back-work c.args.m m0 e reached c.args.self kept (g.A.Arith.width c.args.arith.now) r first.0 first.1, c.combination.ensures.work)
+
+pub returns-in_err-y-in-Some-clause-fault : goal.returns-in_err-y-in-Some-clause-fault
+returns-in_err-y-in-Some-clause-fault g c m0 e reached kept =
+    let r = c.in-Some.r in
+    let same = λ (i : ℕ). ap (λ (xs : List Bool). is_active xs i) (sym c.deref.ensures.value) in
+    let first = first_row c.args.m m0 e reached c.args.self kept r (same r ∙ c.in-Some.ensures.0) (λ i lt. same i ∙ c.in-Some.ensures.1 i lt) in
+    let p = err_from_is_err_and c.from_residual.result c.from_residual.ensures.1 in
+    rw (p.1, p.2)
+    (factored-stops c.args.m m0 e reached c.args.self kept (g.A.Arith.width c.args.arith.now) r first.0 first.1 c.in_err-y-in-Some.field-0.0 c.in_err-y-in-Some.ensures.fault)
+
+pub returns-in_err-y-in-Some-clause-work : goal.returns-in_err-y-in-Some-clause-work
+returns-in_err-y-in-Some-clause-work g c m0 e reached kept =
     let r = c.in-Some.r in
     let same = λ (i : ℕ). ap (λ (xs : List Bool). is_active xs i) (sym c.deref.ensures.value) in
     let first = first_row c.args.m m0 e reached c.args.self kept r (same r ∙ c.in-Some.ensures.0) (λ i lt. same i ∙ c.in-Some.ensures.1 i lt) in
