@@ -8,30 +8,38 @@ use Rattle.lp_text.specs.Report.{Report}
 use Rattle.lp_main.specs.declared.refusal.Refusal.{Refusal}
 use Rattle.lp_main.specs.declared.refusal.Refusal.TheVariants as refusal
 use Rattle.lp_main.specs.declared.status.Answer.{Answer}
-use Rattle.lp_main.specs.Checks.{BeginsVerdict, GivesVerdict, IsCheckCause, IsVerdictOn, TellsReport}
+use Rattle.lp_main.specs.declared.words.Task.TheVariants.{Check}
+use Rattle.cert_check.specs.declared.verdict.Rule.{Rule}
+use Rattle.lp_main.specs.Checks.{IsUnfit, IsVerdictOn, TellsReport}
+use Rattle.lp_main.specs.Ends.{Begins, Writes, IsCause}
+use Rattle.lp_main.specs.World.{Stream}
 use Rattle.lp_main.specs.Inner.Checking.{IsJudgeCause}
 
 module _ (form : Form) (w : ℕ) (d : Deck) (report : Report) where
+  unfit : (text : Option (List ℕ)) (rule : Rule) (name : Option (List ℕ)) → IfSome text (λ t. TellsReport form t d report)
+      → IsJudgeCause w d report (refusal.Unfit rule name) → IfSome text (IsUnfit form w rule name)
+  unfit None rule name tells cause = tt
+  unfit (Some t) rule name tells cause = (d, report, tells, cause.0, cause.1)
+
   -- no verdict was found
-  unjudged_cause : (text left : Option (List ℕ)) (n n' : ℕ) (old : Option (List ℕ)) (r : Refusal) → IfSome text (λ t. TellsReport form t d report) → IsJudgeCause w d report r
-      → IsCheckCause form w text left n n' old old r
-  unjudged_cause None left n n' old (refusal.Unfit rule name) tells cause = (tt, refl)
-  unjudged_cause (Some t) left n n' old (refusal.Unfit rule name) tells cause = ((d, report, tells, cause.0, cause.1), refl)
-  unjudged_cause text left n n' old refusal.Memory tells cause = inl refl
-  unjudged_cause text left n n' old other tells cause = absurd cause
+  unjudged_cause : (input input' : Stream) (old : Option (List ℕ)) (r : Refusal) → IfSome input.bytes (λ t. TellsReport form t d report) → IsJudgeCause w d report r
+      → IsCause (Some (Check form)) w input input' old old r
+  unjudged_cause input input' old (refusal.Unfit rule name) tells cause = (unfit input.bytes rule name tells cause, refl)
+  unjudged_cause input input' old refusal.Memory tells cause = inl refl
+  unjudged_cause input input' old other tells cause = absurd cause
+
+  pub unjudged : (result : Result Answer Refusal) (input input' : Stream) (old : Option (List ℕ)) (e : Refusal)
+      → IfSome input.bytes (λ t. TellsReport form t d report) → IsJudgeCause w d report e → IsErrAnd result (λ r. r ≡ e) → IfErr result (IsCause (Some (Check form)) w input input' old old)
+  unjudged (Ok a) input input' old e tells cause is = tt
+  unjudged (Err r) input input' old e tells cause is = subst (IsCause (Some (Check form)) w input input' old old) (sym is) (unjudged_cause input input' old e tells cause)
 
   -- the verdict was written, or a beginning of it
   pub given : (text old new : Option (List ℕ)) (a : Answer) (line : List ℕ) → IfSome text (λ t. TellsReport form t d report) → IsVerdictOn w d report a line
-      → Appends old new line → IfSome text (GivesVerdict form w old new a)
-  given None old new a line tells verdict appended = tt
+      → Appends old new line → Writes (Some (Check form)) w text old new a
+  given None old new a line tells verdict appended = (line, tt, appended)
   given (Some t) old new a line tells verdict appended = (line, (d, report, tells, verdict), appended)
 
   pub begun : (text old new : Option (List ℕ)) (a : Answer) (line : List ℕ) → IfSome text (λ t. TellsReport form t d report) → IsVerdictOn w d report a line
-      → AppendsPrefix old new line → IfSome text (BeginsVerdict form w old new)
-  begun None old new a line tells verdict appended = tt
+      → AppendsPrefix old new line → Begins (Some (Check form)) w text old new
+  begun None old new a line tells verdict appended = (a, line, tt, appended)
   begun (Some t) old new a line tells verdict appended = (a, line, (d, report, tells, verdict), appended)
-
-  pub unjudged : (result : Result Answer Refusal) (text left : Option (List ℕ)) (n n' : ℕ) (old : Option (List ℕ)) (e : Refusal)
-      → IfSome text (λ t. TellsReport form t d report) → IsJudgeCause w d report e → IsErrAnd result (λ r. r ≡ e) → IfErr result (IsCheckCause form w text left n n' old old)
-  unjudged (Ok a) text left n n' old e tells cause is = tt
-  unjudged (Err r) text left n n' old e tells cause is = subst (IsCheckCause form w text left n n' old old) (sym is) (unjudged_cause text left n n' old e tells cause)

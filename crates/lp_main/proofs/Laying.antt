@@ -9,25 +9,31 @@ use Rattle.lp_main.specs.declared.refusal.Refusal.{Refusal}
 use Rattle.lp_main.specs.declared.refusal.Refusal.TheVariants as refusal
 use Rattle.lp_main.specs.declared.status.Answer.{Answer}
 use Rattle.lp_main.specs.Inner.Laying.{IsUnwritten}
-use Rattle.lp_main.specs.Layouts.{IsLayoutCause, LaysOut}
-use Rattle.lp_main.specs.Solves.{IsRead}
+use Rattle.lp_main.specs.declared.status.Answer.TheVariants.{Done}
+use Rattle.lp_main.specs.declared.words.Task.TheVariants as task
+use Rattle.lp_main.specs.Ends.{Writes, IsCause}
+use Rattle.lp_main.specs.Inner.Solving.{IsRead}
+use Rattle.lp_main.specs.Layouts.{IsLayout}
+use Rattle.lp_main.specs.World.{Stream}
 
 module _ (form : Form) (old new : Option (List ℕ)) (d : Deck) where
-  -- the deck was written
-  pub lays_out : (text : Option (List ℕ)) → IfSome text (λ t. IsRead form t d) → IsWritten (deck_text form d) old new → IfSome text (LaysOut form old new)
-  lays_out None read written = tt
-  lays_out (Some t) read (bytes, spelled, appended) = (bytes, (d, read.0, read.1, spelled), appended)
+  layout_is : (layout : Result (List ℕ) (List ℕ)) → deck_text form d ≡ layout → (text : Option (List ℕ)) → IfSome text (λ t. IsRead form t d) → IfSome text (IsLayout form layout)
+  layout_is layout is None read = tt
+  layout_is layout is (Some t) read = (d, read.0, read.1, is)
 
-  unwritten : (text left : Option (List ℕ)) (e : Refusal) → IfSome text (λ t. IsRead form t d) → IsUnwritten (deck_text form d) old new e → IsLayoutCause form text left old new e
-  unwritten None left (refusal.Wide name) read cause = (tt, cause.1)
-  unwritten (Some t) left (refusal.Wide name) read cause = ((d, read.0, read.1, cause.0), cause.1)
-  unwritten None left refusal.Write read cause = tt
-  unwritten (Some t) left refusal.Write read (bytes, spelled, begun) = (bytes, (d, read.0, read.1, spelled), begun)
-  unwritten text left refusal.Memory read cause = inl cause
-  unwritten text left other read cause = absurd cause
+  -- the deck was written
+  pub lays_out : (w : ℕ) (text : Option (List ℕ)) → IfSome text (λ t. IsRead form t d) → IsWritten (deck_text form d) old new → Writes (Some (task.Deck form)) w text old new Done
+  lays_out w text read (bytes, spelled, appended) = (bytes, layout_is (Ok bytes) spelled text read, appended)
+
+  unwritten : (w : ℕ) (input input' : Stream) (e : Refusal) → IfSome input.bytes (λ t. IsRead form t d) → IsUnwritten (deck_text form d) old new e
+      → IsCause (Some (task.Deck form)) w input input' old new e
+  unwritten w input input' (refusal.Wide name) read cause = (layout_is (Err name) cause.0 input.bytes read, cause.1)
+  unwritten w input input' refusal.Write read (bytes, spelled, begun) = (Done, bytes, layout_is (Ok bytes) spelled input.bytes read, begun)
+  unwritten w input input' refusal.Memory read cause = inl cause
+  unwritten w input input' other read cause = absurd cause
 
   -- the deck was not written to its end
-  pub not_written : (result : Result Answer Refusal) (text left : Option (List ℕ)) (e : Refusal) → IfSome text (λ t. IsRead form t d) → IsUnwritten (deck_text form d) old new e
-      → IsErrAnd result (λ r. r ≡ e) → IfErr result (IsLayoutCause form text left old new)
-  not_written (Ok a) text left e read cause is = tt
-  not_written (Err r) text left e read cause is = subst (IsLayoutCause form text left old new) (sym is) (unwritten text left e read cause)
+  pub not_written : (w : ℕ) (result : Result Answer Refusal) (input input' : Stream) (e : Refusal) → IfSome input.bytes (λ t. IsRead form t d) → IsUnwritten (deck_text form d) old new e
+      → IsErrAnd result (λ r. r ≡ e) → IfErr result (IsCause (Some (task.Deck form)) w input input' old new)
+  not_written w (Ok a) input input' e read cause is = tt
+  not_written w (Err r) input input' e read cause is = subst (IsCause (Some (task.Deck form)) w input input' old new) (sym is) (unwritten w input input' e read cause)

@@ -1,11 +1,11 @@
 pub mod Working
+pub mod Truly
 pub mod Reporting
 pub mod Solving
 pub mod FirstFaults
 pub mod Laying
-pub mod LayoutEnds
 pub mod Summing
-pub mod SummaryEnds
+pub mod Musts
 pub mod Ending
 pub mod Sizes
 pub mod LastStates

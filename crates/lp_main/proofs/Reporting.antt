@@ -15,12 +15,8 @@ use Rattle.lp_run.specs.Listing.{Overflows, first_unfit, start_listing}
 use Rattle.lp_run.specs.Run.{IsRun}
 use Rattle.lp_run.specs.State.{State}
 use Rattle.factor_run.specs.Calm.{IsCalm}
-use Rattle.bland_laws.specs.OutcomeProves.{OutcomeProves}
 use Rattle.bland_laws.proofs.OfDeck.{row_count_is, structural_count_is, well_formed}
 use Rattle.bland_laws.proofs.OutcomeProves.{outcome_proves}
-use Rattle.lp_laws.proofs.WeakDuality.{weak}
-use Rattle.lp_laws.proofs.FarkasGap.{gap}
-use Rattle.lp_laws.proofs.AlongRays.{endless}
 use Rattle.deck_model.specs.Outcome.{HasLengthsOf, outcome_of}
 use Rattle.lp_text.specs.Report.{Report}
 use Rattle.two_phase.specs.declared.board.Closed.{Closed}
@@ -31,8 +27,9 @@ use Rattle.plain_table.specs.Answers.{IsRunLog}
 use Rattle.lp_main.specs.declared.refusal.Refusal.{Refusal}
 use Rattle.lp_main.specs.declared.refusal.Refusal.TheVariants as refusal
 use Rattle.lp_main.specs.declared.words.Asked.{Asked}
-use Rattle.lp_main.specs.Serves.{Means, stated}
-use Rattle.lp_main.specs.Solves.{IsReportCause, IsReportOf}
+use Rattle.lp_main.specs.Inner.Solving.{IsReportCause, IsReportOf}
+use Rattle.lp_main.specs.Solves.{stated}
+use Rattle.lp_main.proofs.Truly.{is_true}
 use Rattle.lp_main.proofs.Working.{start_not_calm}
 
 -- ── the outcome's lists ──
@@ -69,12 +66,6 @@ module _ (d : Deck) (deck : IsDeck d) where
     ap length is_r ∙ length-map-upto _ (structural_count (instance_of d)) ∙ structural_count_is d deck,
   )
 
-  -- what an outcome proves is so
-  means : (o : Outcome) → OutcomeProves d o → Means d o
-  means (optimal x y v) proves = weak d x y proves.0
-  means (infeasible y) proves = gap d y proves
-  means (unbounded x r) proves = endless d x r proves
-
   -- ── what the solver answers of the deck's instance ──
 
   report_there : (asked : Asked) (inst : Instance) → inst ≡ instance_of d → (closed : Closed) → HasClosed inst asked.budget closed → (last : State) → IsRun inst closed.log last
@@ -82,12 +73,11 @@ module _ (d : Deck) (deck : IsDeck d) where
   report_there asked inst same closed has last run report is =
       let o = outcome_of closed.outcome in
       let outcome = subst (λ inst. HasOutcome inst closed.log o) same has.outcome in
-      let proves = outcome_proves d deck closed.log o outcome in
       subst (IsReportOf asked d) (sym is)
       (record {
         log = closed.log;
         last = last;
-        solved = record { outcome = outcome; within = has.within; proves = proves; means = means o proves };
+        solved = record { outcome = outcome; within = has.within; truth = is_true d o (outcome_proves d deck closed.log o outcome) };
         run = subst (λ inst. IsRun inst closed.log last) same run;
         is = refl;
         lengths = lengths_are o closed.log outcome;

@@ -10,49 +10,56 @@ use Rattle.lp_main.specs.declared.refusal.Refusal.{Refusal}
 use Rattle.lp_main.specs.declared.refusal.Refusal.TheVariants as refusal
 use Rattle.lp_main.specs.declared.status.Answer.{Answer}
 use Rattle.lp_main.specs.declared.words.Asked.{Asked}
-use Rattle.lp_main.specs.Serves.{BeginsReport, IsReport, Reports}
-use Rattle.lp_main.specs.Solves.{IsCause, IsRead, IsReportCause, IsReportOf, IsWriteCause}
+use Rattle.lp_run.specs.Instance.{instance_of}
+use Rattle.lp_run.specs.Listing.{Overflows}
+use Rattle.lp_main.specs.declared.status.Answer.TheVariants.{Done}
+use Rattle.lp_main.specs.declared.words.Task.TheVariants.{Solve}
+use Rattle.lp_main.specs.Ends.{Begins, Writes, IsCause}
+use Rattle.lp_main.specs.Inner.Solving.{IsRead, IsReportCause, IsReportOf, IsWriteCause}
+use Rattle.lp_main.specs.Solves.{IsDeckWith, IsReport, IsShort}
+use Rattle.lp_main.specs.World.{Stream}
 
 module _ (asked : Asked) (old new : Option (List ℕ)) (d : Deck) (report : Report) (is : IsReportOf asked d report) where
   -- the report's text is the one that is asked for
-  is_report : (t : List ℕ) → IsRead asked.form t d → IsReport asked t (text_of_report d report)
-  is_report t read = (d, read.0, is.log, report.outcome, is.last, read.1, is.solved, is.run, ap (text_of_report d) is.is)
+  is_report : (text : Option (List ℕ)) → IfSome text (λ t. IsRead asked.form t d) → IfSome text (IsReport asked (text_of_report d report))
+  is_report None read = tt
+  is_report (Some t) read = (d, read.0, is.log, report.outcome, is.last, read.1, is.solved, is.run, ap (text_of_report d) is.is)
 
-  pub reports : (text : Option (List ℕ)) → IfSome text (λ t. IsRead asked.form t d) → Appends old new (text_of_report d report) → IfSome text (Reports asked old new)
-  reports None read appended = tt
-  reports (Some t) read appended = (text_of_report d report, is_report t read, appended)
+  pub reports : (w : ℕ) (text : Option (List ℕ)) → IfSome text (λ t. IsRead asked.form t d) → Appends old new (text_of_report d report) → Writes (Some (Solve asked)) w text old new Done
+  reports w text read appended = (text_of_report d report, is_report text read, appended)
 
-  begins : (text : Option (List ℕ)) → IfSome text (λ t. IsRead asked.form t d) → AppendsPrefix old new (text_of_report d report) → IfSome text (BeginsReport asked old new)
-  begins None read appended = tt
-  begins (Some t) read appended = (text_of_report d report, is_report t read, appended)
-
-  write_cause : (w : ℕ) (text left : Option (List ℕ)) (e : Refusal) → IsWriteCause e → IfSome text (BeginsReport asked old new) → IsCause asked w text left old new e
-  write_cause w text left refusal.Write h begun = begun
-  write_cause w text left refusal.Memory h begun = inr begun
-  write_cause w text left other h begun = absurd h
+  write_cause : (w : ℕ) (input input' : Stream) (e : Refusal) → IsWriteCause e → Begins (Some (Solve asked)) w input.bytes old new → IsCause (Some (Solve asked)) w input input' old new e
+  write_cause w input input' refusal.Write h begun = begun
+  write_cause w input input' refusal.Memory h begun = inr begun
+  write_cause w input input' other h begun = absurd h
 
   -- the report was not written to its end
-  pub unwritten_cause : (w : ℕ) (result : Result Answer Refusal) (e : Refusal) (text left : Option (List ℕ)) → IfSome text (λ t. IsRead asked.form t d)
-      → IsWriteCause e → AppendsPrefix old new (text_of_report d report) → IsErrAnd result (λ r. r ≡ e) → IfErr result (IsCause asked w text left old new)
-  unwritten_cause w (Ok a) e text left read cause appended is = tt
-  unwritten_cause w (Err r) e text left read cause appended is =
-      subst (IsCause asked w text left old new) (sym is) (write_cause w text left e cause (begins text read appended))
+  pub unwritten_cause : (w : ℕ) (result : Result Answer Refusal) (e : Refusal) (input input' : Stream) → IfSome input.bytes (λ t. IsRead asked.form t d)
+      → IsWriteCause e → AppendsPrefix old new (text_of_report d report) → IsErrAnd result (λ r. r ≡ e) → IfErr result (IsCause (Some (Solve asked)) w input input' old new)
+  unwritten_cause w (Ok a) e input input' read cause appended is = tt
+  unwritten_cause w (Err r) e input input' read cause appended is =
+      subst (IsCause (Some (Solve asked)) w input input' old new) (sym is)
+      (write_cause w input input' e cause (Done, text_of_report d report, is_report input.bytes read, appended))
 
-pub report_cause : (asked : Asked) (w : ℕ) (e : Refusal) (text left old : Option (List ℕ)) (d : Deck)
-    → IfSome text (λ t. IsRead asked.form t d) → IsReportCause asked w d e → IsCause asked w text left old old e
-report_cause asked w (refusal.Overflow here) None left old d read cause = (tt, refl)
-report_cause asked w (refusal.Overflow here) (Some t) left old d read cause = ((d, read.0, read.1, cause.0, cause.1), refl)
-report_cause asked w (refusal.Budget n) None left old d read cause = (tt, refl)
-report_cause asked w (refusal.Budget n) (Some t) left old d read cause = ((cause.0, d, read.0, read.1, cause.1, cause.2), refl)
-report_cause asked w refusal.Memory text left old d read cause = inl refl
-report_cause asked w other text left old d read cause = absurd cause
+-- what holds of the deck that was read holds of the text's deck
+deck_with : (asked : Asked) (P : Deck → Type 0) (d : Deck) (text : Option (List ℕ)) → IfSome text (λ t. IsRead asked.form t d) → P d → IfSome text (IsDeckWith asked P)
+deck_with asked P d None read h = tt
+deck_with asked P d (Some t) read h = (d, read.0, read.1, h)
+
+pub report_cause : (asked : Asked) (w : ℕ) (e : Refusal) (input input' : Stream) (old : Option (List ℕ)) (d : Deck)
+    → IfSome input.bytes (λ t. IsRead asked.form t d) → IsReportCause asked w d e → IsCause (Some (Solve asked)) w input input' old old e
+report_cause asked w (refusal.Overflow here) input input' old d read cause =
+    (deck_with asked (λ d. Overflows w asked.budget (instance_of d) here) d input.bytes read cause.0, refl)
+report_cause asked w (refusal.Budget n) input input' old d read cause = (deck_with asked (IsShort asked.budget n) d input.bytes read cause, refl)
+report_cause asked w refusal.Memory input input' old d read cause = inl refl
+report_cause asked w other input input' old d read cause = absurd cause
 
 -- the refusal of the report is that of the whole
-pub refused_cause : (asked : Asked) (w : ℕ) (result : Result Answer Refusal) (e : Refusal) (text left old : Option (List ℕ)) (d : Deck)
-    → IfSome text (λ t. IsRead asked.form t d) → IsReportCause asked w d e → IsErrAnd result (λ r. r ≡ e) → IfErr result (IsCause asked w text left old old)
-refused_cause asked w (Ok a) e text left old d read cause is = tt
-refused_cause asked w (Err r) e text left old d read cause is =
-    subst (IsCause asked w text left old old) (sym is) (report_cause asked w e text left old d read cause)
+pub refused_cause : (asked : Asked) (w : ℕ) (result : Result Answer Refusal) (e : Refusal) (input input' : Stream) (old : Option (List ℕ)) (d : Deck)
+    → IfSome input.bytes (λ t. IsRead asked.form t d) → IsReportCause asked w d e → IsErrAnd result (λ r. r ≡ e) → IfErr result (IsCause (Some (Solve asked)) w input input' old old)
+refused_cause asked w (Ok a) e input input' old d read cause is = tt
+refused_cause asked w (Err r) e input input' old d read cause is =
+    subst (IsCause (Some (Solve asked)) w input input' old old) (sym is) (report_cause asked w e input input' old d read cause)
 
 err_is : (e r : Refusal) → IsErrOf {T = Unit {0}} (Err e) r → e ≡ r
 err_is e r same = cc

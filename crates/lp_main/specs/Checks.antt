@@ -1,6 +1,5 @@
--- What a check says of the report that stands behind a deck, and the causes of its refusals.
-use Rattle.std.specs.Prelude.{◌≡◌, ◌⊎◌, ℕ, ◌++◌, List, [], ◌∷◌, drop, Option, Some, IfSome, Ok, Err}
-use Rattle.io_ends.specs.Bytes.{Appends, AppendsPrefix}
+-- What is replied to a report behind a deck that is to be checked; w is the width of the arithmetic.
+use Rattle.std.specs.Prelude.{◌≡◌, ℕ, ◌++◌, List, [], ◌∷◌, drop, Option, Some, IfSome, Ok, Err}
 use Rattle.lp_model.specs.Deck.{Deck}
 use Rattle.lp_text.specs.Lines.{Line, lines_of}
 use Rattle.lp_text.specs.Report.{Report}
@@ -19,9 +18,9 @@ use Rattle.cert_check.specs.Proved.{Holds}
 use Rattle.cert_check.specs.Walk.{walk}
 use Rattle.lp_main.specs.declared.status.Answer.{Answer}
 use Rattle.lp_main.specs.declared.status.Answer.TheVariants as answer
-use Rattle.lp_main.specs.declared.refusal.Refusal.{Refusal}
 use Rattle.lp_main.specs.declared.refusal.Refusal.TheVariants as refusal
-use Rattle.lp_main.specs.Serves.{IsCutOff, IsFirstFault}
+use Rattle.lp_main.specs.FirstFaults.{IsTextFault}
+use Rattle.lp_main.specs.Reply.{Reply, gives, refuses}
 use Rattle.lp_main.specs.Verdicts.{accepted_line, refused_line, rule_name}
 
 -- the text is a deck, behind whose last line these lines stand
@@ -45,20 +44,8 @@ IsVerdictOn w d report answer.Refused line =
     (rule : Rule) × Judges w (walk d report.outcome report.basis) (Ok (No rule)) × (line ≡ refused_line d rule)
 
 -- the line is the verdict on the report that the text tells
-abbrev pub IsVerdict : Form → ℕ → List ℕ → Answer → List ℕ → Type 0
-IsVerdict form w text ans line = (d : Deck) × (report : Report) × TellsReport form text d report × IsVerdictOn w d report ans line
-
--- the input was read to its end
-abbrev pub IsReadToEnd : Option (List ℕ) → Type 0
-IsReadToEnd left = IfSome left (λ bytes. bytes ≡ [])
-
--- the sink gained the verdict
-abbrev pub GivesVerdict : Form → ℕ → Option (List ℕ) → Option (List ℕ) → Answer → List ℕ → Type 0
-GivesVerdict form w old new ans text = (line : List ℕ) × IsVerdict form w text ans line × Appends old new line
-
--- the sink gained the beginning of a verdict
-abbrev pub BeginsVerdict : Form → ℕ → Option (List ℕ) → Option (List ℕ) → List ℕ → Type 0
-BeginsVerdict form w old new text = (ans : Answer) × (line : List ℕ) × IsVerdict form w text ans line × AppendsPrefix old new line
+abbrev pub IsVerdict : Form → ℕ → Answer → List ℕ → List ℕ → Type 0
+IsVerdict form w ans line text = (d : Deck) × (report : Report) × TellsReport form text d report × IsVerdictOn w d report ans line
 
 -- the line of this number, counted from the text's first, has the first flaw of what stands behind the deck
 abbrev pub IsReportFlaw : Form → ℕ → Flaw → List ℕ → Type 0
@@ -84,12 +71,10 @@ pub record IsReportCutOff (form : Form) (left : Option (List ℕ)) (faults fault
   pub met : Reaches d (version ∷ []) (bytes_of lines) expected
   pub fails : FailsToRead kept (sizes lines) report_limit left_behind left faults faults'
 
--- why a check gave no verdict, and what it left in the sink
-abbrev pub IsCheckCause : Form → ℕ → Option (List ℕ) → Option (List ℕ) → ℕ → ℕ → Option (List ℕ) → Option (List ℕ) → Refusal → Type 0
-IsCheckCause form w text left faults faults' old new (refusal.Deck fault) = IfSome text (λ t. IsFirstFault form t fault) × (new ≡ old)
-IsCheckCause form w text left faults faults' old new refusal.Read = IfSome text (λ t. IsCutOff form left t ⊎ IsReportCutOff form left faults faults' t) × (new ≡ old)
-IsCheckCause form w text left faults faults' old new (refusal.Report number found) = IfSome text (IsReportFlaw form number found) × (new ≡ old)
-IsCheckCause form w text left faults faults' old new (refusal.Unfit rule name) = IfSome text (IsUnfit form w rule name) × (new ≡ old)
-IsCheckCause form w text left faults faults' old new refusal.Write = IfSome text (BeginsVerdict form w old new)
-IsCheckCause form w text left faults faults' old new refusal.Memory = (new ≡ old) ⊎ IfSome text (BeginsVerdict form w old new)
-IsCheckCause form w text left faults faults' old new other = ⊥
+-- the verdict on the report; the deck's first fault, or the report's first flaw; or the first sum of a rule that does not fit w bits
+abbrev pub Checks : Form → ℕ → Option (List ℕ) → Reply → Type 0
+Checks form w text (gives ans line) = IfSome text (IsVerdict form w ans line)
+Checks form w text (refuses (refusal.Deck fault)) = IfSome text (λ t. IsTextFault form t fault)
+Checks form w text (refuses (refusal.Report number found)) = IfSome text (IsReportFlaw form number found)
+Checks form w text (refuses (refusal.Unfit rule name)) = IfSome text (IsUnfit form w rule name)
+Checks form w text other = ⊥

@@ -1,3 +1,4 @@
--- inner: what the parts of a check, and of writing a deck, answer.
+-- inner: what the parts of a solve, of a check, and of writing a deck, answer.
+pub mod Solving
 pub mod Checking
 pub mod Laying

@@ -7,11 +7,13 @@ pub mod Overflow
 pub mod Verdicts
 pub mod Refusal
 pub mod Words
-pub mod Serves
+pub mod Reply
+pub mod FirstFaults
+pub mod Checks
+pub mod Truths
 pub mod Solves
 pub mod Layouts
 pub mod Summaries
-pub mod Checks
 pub mod Ends
 pub mod Runs
 pub mod Works

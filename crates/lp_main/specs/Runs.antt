@@ -1,33 +1,62 @@
 -- What a call of the program does.
-use Rattle.std.specs.Prelude.{◌≡◌, ◌≤◌, ℕ, List, Option, IfSome}
+use Rattle.std.specs.Prelude.{◌≡◌, ◌≤◌, ◌⊎◌, ℕ, List, Option, IfSome, Result, Ok, Err}
 use Rattle.io_ends.specs.Count.{Rose}
-use Rattle.mps_model.specs.DeckOf.{reading_of}
+use Rattle.lp_model.specs.Deck.{Deck}
+use Rattle.lp_model.specs.Log.{moves}
+use Rattle.lp_model.specs.Outcome.{Outcome}
+use Rattle.lp_model.specs.declared.Entry.{Entry}
+use Rattle.lp_run.specs.Ends.{HasOutcome}
+use Rattle.lp_run.specs.Instance.{instance_of}
+use Rattle.lp_run.specs.Listing.{RunFits}
+use Rattle.mps_model.specs.DeckOf.{Reading, has_fault, is_deck, reading_of}
+use Rattle.deck_tools.specs.Layout.{deck_text}
 use Rattle.deck_tools.specs.Transport.{transport}
 use Rattle.lp_main.specs.declared.status.Status.{Status}
 use Rattle.lp_main.specs.declared.status.Status.TheVariants as status
 use Rattle.lp_main.specs.declared.words.Task.{Task}
 use Rattle.lp_main.specs.declared.words.Task.TheVariants as task
-use Rattle.lp_main.specs.Ends.{End, LeavesBy, ReadsAsNeeded, ReadsBy, SaysBy, WritesBy, status_of_end}
+use Rattle.lp_main.specs.Ends.{End, IsOrMemory, LeavesBy, TakesAsNeeded, ReadsBy, SaysBy, WritesBy, status_of_end}
+use Rattle.lp_main.specs.FaultLines.{fault_line}
+use Rattle.lp_main.specs.Refusals.{wide_line}
 use Rattle.lp_main.specs.Says.{Says}
-use Rattle.lp_main.specs.Layouts.{AnswersDeck}
-use Rattle.lp_main.specs.Serves.{Answers, AnswersFault, EndsWithin, FitsRun, IsOrMemory}
 use Rattle.lp_main.specs.Summaries.{summary_budget}
 use Rattle.lp_main.specs.World.{World}
 
--- the status of a text, where the input tells one: a deck with a fault is refused with its first; a deck is solved whose run ends within the budget and
--- fits, or is calm; a deck is written whose numbers have spellings. A deck that is made is solved where its run ends within the budget and fits, or is calm
+-- the run of the deck ends within the budget
+abbrev pub EndsWithin : ℕ → Deck → Type 0
+EndsWithin budget d = (log : List Entry) × (o : Outcome) × HasOutcome (instance_of d) log o × (moves log ≤ budget)
+
+-- a deck whose run ends within the budget is solved, unless a value of the run does not fit w bits, or memory ran out
+abbrev pub MustSolve : ℕ → ℕ → Deck → Status → Type 0
+MustSolve budget w d s = EndsWithin budget d → IsOrMemory s status.Done ⊎ ((s ≡ status.Overflow) × (¬ RunFits w (instance_of d)))
+
+-- the input is refused with the line, or memory ran out; Said is what standard error has of a line
+abbrev pub RefusesInput : Status → (List ℕ → Type 0) → List ℕ → Type 0
+RefusesInput s Said line = ((s ≡ status.BadInput) × Said line) ⊎ (s ≡ status.Memory)
+
+-- a deck is written, or refused by its first number without a spelling
+abbrev pub MustLayOut : Result (List ℕ) (List ℕ) → Status → (List ℕ → Type 0) → Type 0
+MustLayOut (Ok bytes) s Said = IsOrMemory s status.Done
+MustLayOut (Err name) s Said = RefusesInput s Said (wide_line name)
+
+-- a text with a fault is refused with the line of its first; of a deck this is owed
+abbrev pub MustAnswerTo : Reading → Status → (List ℕ → Type 0) → (Deck → Type 0) → Type 0
+MustAnswerTo (has_fault fault) s Said Owed = RefusesInput s Said (fault_line fault)
+MustAnswerTo (is_deck d line) s Said Owed = Owed d
+
+-- what must be answered to a text, where the input tells one
 abbrev pub MustAnswer : Task → ℕ → Option (List ℕ) → Status → (List ℕ → Type 0) → Type 0
-MustAnswer (task.Solve asked) w text s Said = IfSome text (λ t. Answers asked w (reading_of asked.form t) s Said)
-MustAnswer (task.Check form) w text s Said = IfSome text (λ t. AnswersFault (reading_of form t) s Said)
-MustAnswer (task.Deck form) w text s Said = IfSome text (λ t. AnswersDeck form (reading_of form t) s Said)
-MustAnswer (task.Make n) w text s Said = EndsWithin summary_budget (transport n) → FitsRun w (transport n) → IsOrMemory s status.Done
+MustAnswer (task.Solve asked) w text s Said = IfSome text (λ t. MustAnswerTo (reading_of asked.form t) s Said (λ d. MustSolve asked.budget w d s))
+MustAnswer (task.Check form) w text s Said = IfSome text (λ t. MustAnswerTo (reading_of form t) s Said (λ d. Unit {0}))
+MustAnswer (task.Deck form) w text s Said = IfSome text (λ t. MustAnswerTo (reading_of form t) s Said (λ d. MustLayOut (deck_text form d) s Said))
+MustAnswer (task.Make n) w text s Said = MustSolve summary_budget w (transport n) s
 
 -- what is asked for, at a width of w bits, turns the world before into the world after, with this status
 pub record Runs (what : Option Task) (w : ℕ) (before after : World) (s : Status) : Type 0 where
   -- it ends in one way, which has this status
-  pub ends : (end : End) × (s ≡ status_of_end end) × LeavesBy what w before.input after.input before.output after.output end × SaysBy before.errors after.errors end
+  pub ends : (end : End) × (s ≡ status_of_end end) × LeavesBy what w before.input after.input before.output.bytes after.output.bytes end × SaysBy before.errors after.errors end
   -- the input is read only as needed, however the call ends
-  pub needed : ReadsAsNeeded what before.input after.input
+  pub needed : TakesAsNeeded what before.input after.input
   -- the counts of faults do not fall
   pub input_never_falls : before.input.faults ≤ after.input.faults
   pub output_never_falls : before.output.faults ≤ after.output.faults

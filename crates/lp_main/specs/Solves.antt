@@ -1,69 +1,58 @@
--- The causes of a solve's refusals, against the text that its source had left; w is the width of the arithmetic.
-use Rattle.std.specs.Prelude.{◌≡◌, ◌⊎◌, ℕ, ◌<◌, List, Option, IfSome}
+-- What is replied to a deck that is to be solved; w is the width of the arithmetic.
+use Rattle.std.specs.Prelude.{◌≡◌, ℕ, ◌≤◌, ◌<◌, List, Option, Some, None, IfSome, ◌==◌, if◌then◌else◌}
 use Rattle.lp_model.specs.declared.Entry.{Entry}
+use Rattle.lp_model.specs.Basis.{Basis}
 use Rattle.lp_model.specs.Deck.{Deck}
+use Rattle.lp_model.specs.Log.{moves}
+use Rattle.lp_model.specs.Outcome.{Outcome}
+use Rattle.lp_run.specs.Ends.{HasOutcome}
 use Rattle.lp_run.specs.Instance.{instance_of}
 use Rattle.lp_run.specs.Listing.{Overflows}
 use Rattle.lp_run.specs.Run.{IsRun, IsSpent}
 use Rattle.lp_run.specs.State.{State}
 use Rattle.bland_laws.specs.Ends.{run_bound}
-use Rattle.factor_run.specs.Calm.{IsCalm}
-use Rattle.deck_model.specs.Outcome.{HasLengthsOf}
-use Rattle.lp_text.specs.Report.{Report}
-use Rattle.lp_text.specs.declared.Form.{Form}
+use Rattle.instance_model.specs.Basis.{basis_of}
+use Rattle.lp_text.specs.Report.{Report, text_of_report}
 use Rattle.mps_model.specs.DeckOf.{IsDeckOf}
-use Rattle.mps_reader.specs.declared.faults.DeckFault.{DeckFault}
-use Rattle.mps_reader.specs.declared.faults.DeckFault.TheVariants as fault
-use Rattle.lp_main.specs.declared.words.Asked.{Asked}
-use Rattle.lp_main.specs.declared.refusal.Refusal.{Refusal}
 use Rattle.lp_main.specs.declared.refusal.Refusal.TheVariants as refusal
-use Rattle.lp_main.specs.Serves.{BeginsReport, IsCutOff, IsFirstFault, IsOverBudget, IsOverflow, IsSolved, stated}
+use Rattle.lp_main.specs.declared.status.Answer.TheVariants as answer
+use Rattle.lp_main.specs.declared.words.Asked.{Asked}
+use Rattle.lp_main.specs.FirstFaults.{IsTextFault}
+use Rattle.lp_main.specs.Reply.{Reply, gives, refuses}
+use Rattle.lp_main.specs.Truths.{IsTrue}
 
--- the refusal where the reader answers this
-abbrev pub refusal_of : DeckFault → Refusal
-refusal_of fault.Read = refusal.Read
-refusal_of fault.Memory = refusal.Memory
-refusal_of fault = refusal.Deck fault
+-- the deck's whole run is the log, within the budget; the outcome is that of the run, and it is true
+pub record IsSolved (budget : ℕ) (d : Deck) (log : List Entry) (o : Outcome) : Type 0 where
+  pub outcome : HasOutcome (instance_of d) log o
+  pub within : moves log ≤ budget
+  pub truth : IsTrue d o
 
--- the text is the deck
-abbrev pub IsRead : Form → List ℕ → Deck → Type 0
-IsRead form text d = (line : ℕ) × IsDeckOf form text d line
+-- the basis of the last state, which a report of version 2 tells
+abbrev pub told : ℕ → State → Option Basis
+told version last = if version == 2 then Some (basis_of last) else None
 
--- why no deck was read: the text's first fault; or a read failed, and what was taken before has no fault
-abbrev pub IsReadingCause : Form → Option (List ℕ) → Option (List ℕ) → Refusal → Type 0
-IsReadingCause form text left (refusal.Deck fault) = IfSome text (λ t. IsFirstFault form t fault)
-IsReadingCause form text left refusal.Read = IfSome text (IsCutOff form left)
-IsReadingCause form text left refusal.Memory = Unit {0}
-IsReadingCause form text left other = ⊥
+-- what the report that is asked for states: the outcome, the basis, and the log where it is asked for
+abbrev pub stated : Asked → List Entry → Outcome → State → Report
+stated asked log o last = record { outcome = o; basis = told asked.version last; log = if asked.log then Some log else None }
 
--- why a solve wrote no report, and what it left in the sink
-abbrev pub IsCause : Asked → ℕ → Option (List ℕ) → Option (List ℕ) → Option (List ℕ) → Option (List ℕ) → Refusal → Type 0
-IsCause asked w text left old new (refusal.Deck fault) = IfSome text (λ t. IsFirstFault asked.form t fault) × (new ≡ old)
-IsCause asked w text left old new refusal.Read = IfSome text (IsCutOff asked.form left) × (new ≡ old)
-IsCause asked w text left old new refusal.Write = IfSome text (BeginsReport asked old new)
-IsCause asked w text left old new (refusal.Overflow here) = IfSome text (IsOverflow asked w here) × (new ≡ old)
-IsCause asked w text left old new (refusal.Budget moves) = IfSome text (IsOverBudget asked moves) × (new ≡ old)
-IsCause asked w text left old new refusal.Memory = (new ≡ old) ⊎ IfSome text (BeginsReport asked old new)
-IsCause asked w text left old new other = ⊥
+-- the bytes are the report that is asked for of the text's deck
+abbrev pub IsReport : Asked → List ℕ → List ℕ → Type 0
+IsReport asked bytes text =
+    (d : Deck) × (line : ℕ) × (log : List Entry) × (o : Outcome) × (last : State)
+    × IsDeckOf asked.form text d line × IsSolved asked.budget d log o × IsRun (instance_of d) log last × (bytes ≡ text_of_report d (stated asked log o last))
 
--- the report states the outcome of the deck's whole run, as it is asked for
-pub record IsReportOf (asked : Asked) (d : Deck) (report : Report) : Type 0 where
-  pub log : List Entry
-  pub last : State
-  pub solved : IsSolved asked.budget d log report.outcome
-  pub run : IsRun (instance_of d) log last
-  pub is : report ≡ stated asked log report.outcome last
-  pub lengths : HasLengthsOf d report.outcome
+-- the run of the deck needs more moves than the budget, which is n, and below the bound of the run by Bland's theorem
+abbrev pub IsShort : ℕ → ℕ → Deck → Type 0
+IsShort budget n d = (n ≡ budget) × IsSpent (instance_of d) budget × (budget < run_bound (instance_of d))
 
--- why a deck that was read has no report
-abbrev pub IsReportCause : Asked → ℕ → Deck → Refusal → Type 0
-IsReportCause asked w d (refusal.Overflow here) = Overflows w asked.budget (instance_of d) here × (¬ IsCalm w (instance_of d))
-IsReportCause asked w d (refusal.Budget moves) = (moves ≡ asked.budget) × IsSpent (instance_of d) asked.budget × (asked.budget < run_bound (instance_of d))
-IsReportCause asked w d refusal.Memory = Unit {0}
-IsReportCause asked w d other = ⊥
+-- the text is a deck, and this holds of it
+abbrev pub IsDeckWith : Asked → (Deck → Type 0) → List ℕ → Type 0
+IsDeckWith asked P text = (d : Deck) × (line : ℕ) × IsDeckOf asked.form text d line × P d
 
--- why a report was not written to its end
-abbrev pub IsWriteCause : Refusal → Type 0
-IsWriteCause refusal.Write = Unit {0}
-IsWriteCause refusal.Memory = Unit {0}
-IsWriteCause other = ⊥
+-- its report; the text's first fault; the first value of its run, within the budget, that does not fit w bits; or a run longer than the budget
+abbrev pub Solves : Asked → ℕ → Option (List ℕ) → Reply → Type 0
+Solves asked w text (gives answer.Done bytes) = IfSome text (IsReport asked bytes)
+Solves asked w text (refuses (refusal.Deck fault)) = IfSome text (λ t. IsTextFault asked.form t fault)
+Solves asked w text (refuses (refusal.Overflow here)) = IfSome text (IsDeckWith asked (λ d. Overflows w asked.budget (instance_of d) here))
+Solves asked w text (refuses (refusal.Budget n)) = IfSome text (IsDeckWith asked (IsShort asked.budget n))
+Solves asked w text other = ⊥

@@ -1,7 +1,6 @@
--- What it leaves to make a transport deck and to solve it, and the causes of its refusals.
-use Rattle.std.specs.Prelude.{◌≡◌, ◌⊎◌, ℕ, ◌*◌, ◌<◌, List, ◌++◌, Option, codes}
+-- What is replied where a transport deck is to be made and solved; w is the width of the arithmetic.
+use Rattle.std.specs.Prelude.{◌≡◌, ℕ, ◌*◌, List, ◌++◌, codes}
 use Rattle.std.specs.Fmt.{decimal}
-use Rattle.io_ends.specs.Bytes.{Appends, AppendsPrefix}
 use Rattle.deck_tools.specs.Transport.{transport}
 use Rattle.lp_model.specs.declared.Entry.{Entry}
 use Rattle.lp_model.specs.Log.{moves}
@@ -9,14 +8,12 @@ use Rattle.lp_model.specs.Outcome.{optimal}
 use Rattle.rational.specs.Rational.{ℚ}
 use Rattle.lp_run.specs.Instance.{instance_of}
 use Rattle.lp_run.specs.Listing.{Overflows}
-use Rattle.lp_run.specs.Run.{IsSpent}
-use Rattle.bland_laws.specs.Ends.{run_bound}
-use Rattle.factor_run.specs.Calm.{IsCalm}
 use Rattle.lp_text.specs.Fraction.{fraction_text}
-use Rattle.lp_main.specs.declared.refusal.Refusal.{Refusal}
 use Rattle.lp_main.specs.declared.refusal.Refusal.TheVariants as refusal
+use Rattle.lp_main.specs.declared.status.Answer.TheVariants as answer
 use Rattle.lp_main.specs.Refusals.{ended}
-use Rattle.lp_main.specs.Serves.{IsSolved}
+use Rattle.lp_main.specs.Reply.{Reply, gives, refuses}
+use Rattle.lp_main.specs.Solves.{IsShort, IsSolved}
 
 -- how many moves the run may take
 abbrev pub summary_budget : ℕ
@@ -33,19 +30,9 @@ abbrev pub IsSummary : ℕ → List ℕ → Type 0
 IsSummary n bytes =
     (log : List Entry) × (x y : List ℚ) × (v : ℚ) × IsSolved summary_budget (transport n) log (optimal x y v) × (bytes ≡ summary n log v)
 
--- the sink gained the summary
-abbrev pub GivesSummary : ℕ → Option (List ℕ) → Option (List ℕ) → Type 0
-GivesSummary n old new = (bytes : List ℕ) × IsSummary n bytes × Appends old new bytes
-
--- the sink gained the beginning of the summary
-abbrev pub BeginsSummary : ℕ → Option (List ℕ) → Option (List ℕ) → Type 0
-BeginsSummary n old new = (bytes : List ℕ) × IsSummary n bytes × AppendsPrefix old new bytes
-
--- why no summary was written, and what the sink gained of it
-abbrev pub IsSummaryCause : ℕ → ℕ → Option (List ℕ) → Option (List ℕ) → Refusal → Type 0
-IsSummaryCause n w old new (refusal.Overflow here) = Overflows w summary_budget (instance_of (transport n)) here × (¬ IsCalm w (instance_of (transport n))) × (new ≡ old)
-IsSummaryCause n w old new (refusal.Budget moves) =
-    (moves ≡ summary_budget) × IsSpent (instance_of (transport n)) summary_budget × (summary_budget < run_bound (instance_of (transport n))) × (new ≡ old)
-IsSummaryCause n w old new refusal.Write = BeginsSummary n old new
-IsSummaryCause n w old new refusal.Memory = (new ≡ old) ⊎ BeginsSummary n old new
-IsSummaryCause n w old new other = ⊥
+-- the summary; the first value of the run, within the budget, that does not fit w bits; or a run longer than the budget
+abbrev pub SumsUp : ℕ → ℕ → Reply → Type 0
+SumsUp n w (gives answer.Done bytes) = IsSummary n bytes
+SumsUp n w (refuses (refusal.Overflow here)) = Overflows w summary_budget (instance_of (transport n)) here
+SumsUp n w (refuses (refusal.Budget moves)) = IsShort summary_budget moves (transport n)
+SumsUp n w other = ⊥

@@ -10,15 +10,15 @@ use Rattle.lp_main.specs.declared.refusal.Refusal.{Refusal}
 use Rattle.lp_main.specs.declared.refusal.Refusal.TheVariants as refusal
 
 -- the form of a deck, by whether the words ask for the free one
-abbrev pub form_of : Bool → Form
-form_of true = Free
-form_of false = Fixed
+abbrev pub deck_form : Bool → Form
+deck_form true = Free
+deck_form false = Fixed
 
 -- what is asked for: a solve of a deck, a check of a report behind a deck, a deck in its layout, or a transport deck
 abbrev pub task_of : Option Wish → Option Task
-task_of (Some (Solve workers reinverters budget log free version)) = Some (task.Solve (record { form = form_of free; budget = budget; log = log; version = version }))
-task_of (Some (Check free)) = Some (task.Check (form_of free))
-task_of (Some (Deck free)) = Some (task.Deck (form_of free))
+task_of (Some (Solve workers reinverters budget log free version)) = Some (task.Solve (record { form = deck_form free; budget = budget; log = log; version = version }))
+task_of (Some (Check free)) = Some (task.Check (deck_form free))
+task_of (Some (Deck free)) = Some (task.Deck (deck_form free))
 task_of (Some (Make n)) = Some (task.Make n)
 task_of other = None
 

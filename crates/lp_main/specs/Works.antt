@@ -1,5 +1,5 @@
--- How much a solve works, and that it keeps the count of unfit results, on a deck that is calm.
-use Rattle.std.specs.Prelude.{◌≡◌, ℕ, ◌+◌, ◌≤◌, List, Option, Some, IfSome}
+-- On a deck that is calm a solve is not refused for a wide value, keeps the count of unfit results, and works within a bound.
+use Rattle.std.specs.Prelude.{◌≡◌, ◌≢◌, ℕ, ◌+◌, ◌≤◌, List, Option, Some, IfSome}
 use Rattle.lp_model.specs.declared.Entry.{Entry}
 use Rattle.lp_model.specs.Deck.{Deck}
 use Rattle.lp_model.specs.Log.{moves}
@@ -27,9 +27,10 @@ counts unfit work = record { unfit = unfit; work = work }
 abbrev pub IsBounded : Deck → ℕ → ℕ → Type 0
 IsBounded d work work' = (log : List Entry) × (o : Outcome) × HasOutcome (instance_of d) log o × (work' ≤ work + solve_work (instance_of d) (moves log))
 
--- where the deck is calm at w bits no result is unfit, and a solve that is done works within the bound
+-- where the deck is calm at w bits, so that each value fits that a solver by factors works along its run, no result is unfit, the solve is not refused for a
+-- value that does not fit, and one that is done works within the bound
 abbrev pub WorksCalmly : ℕ → Deck → Counts → Counts → Status → Type 0
-WorksCalmly w d old new s = IsCalm w (instance_of d) → (new.unfit ≡ old.unfit) × (s ≡ status.Done → IsBounded d old.work new.work)
+WorksCalmly w d old new s = IsCalm w (instance_of d) → (new.unfit ≡ old.unfit) × (s ≢ status.Overflow) × (s ≡ status.Done → IsBounded d old.work new.work)
 
 -- this holds of the deck that the text is, where one is to be solved, and of a deck that is made
 abbrev pub Works : Option Task → ℕ → Option (List ℕ) → Counts → Counts → Status → Type 0

@@ -1,12 +1,15 @@
 // A check of the report behind a deck.
-ghost use Rattle.std.specs.Prelude.{◌≡◌, ◌≤◌, ℕ, IfOk, IfSome, IfErr, IsErrOf, Ok, OnOk};
+ghost use Rattle.std.specs.Prelude.{◌≡◌, ◌≤◌, ℕ, IfOk, IfSome, IfErr, IsErrOf, Ok, OnOk, Some};
 ghost use Rattle.io_ends.specs.Count.{Rose};
 ghost use Rattle.cert_check.specs.Judged.{Judges};
 ghost use Rattle.cert_check.specs.Proved.{Tells};
 ghost use Rattle.cert_check.specs.Walk.{walk};
 ghost use Rattle.report_reader.specs.Reading.{IsReportOf};
-ghost use Rattle.lp_main.specs.Checks.{GivesVerdict, IsCheckCause, IsReadToEnd, IsVerdictOn, TellsReport};
+ghost use Rattle.lp_main.specs.declared.words.Task.{Task};
+ghost use Rattle.lp_main.specs.Checks.{IsVerdictOn, TellsReport};
+ghost use Rattle.lp_main.specs.Ends.{Writes, IsCause, IsReadOut};
 ghost use Rattle.lp_main.specs.Inner.Checking.{IsBothCause, IsJudgeCause, answer_of, refusal_of_report};
+ghost use Rattle.lp_main.specs.World.{stream};
 
 use crate::refusal::Refusal;
 use crate::solve::load;
@@ -43,7 +46,7 @@ fn read_both<S: Source>(
 ) -> Result<(Deck, Report), Refusal>
     ensures told { IfOk result (λ both. IfSome (S.remaining source.old) (λ text. TellsReport form text both.0 both.1)) }
     ensures of_deck { IfOk result (λ both. IsReportOf both.0 both.1) }
-    ensures end { OnOk result (IsReadToEnd (S.remaining source.new)) }
+    ensures end { OnOk result (IsReadOut (Some (Task.Check form)) (S.remaining source.new)) }
     ensures cause { IfErr result (IsBothCause form (S.remaining source.old) (S.remaining source.new) (S.fault_count source.old) (S.fault_count source.new)) }
     ensures rose { IsErrOf result Refusal.Read → Rose (S.fault_count source.old) (S.fault_count source.new) }
     ensures stays { ¬ IsErrOf result Refusal.Read → S.fault_count source.new ≡ S.fault_count source.old }
@@ -129,10 +132,10 @@ pub fn check<R: Threads + Sync, S: Source, K: Sink, A: Arith>(
     out: &mut K,
     arith: &mut A,
 ) -> Result<Answer, Refusal>
-    ensures done { IfOk result (λ answer. IfSome (S.remaining source.old) (GivesVerdict form (A.width arith.old) (K.contents out.old) (K.contents out.new) answer)) }
-    ensures end { OnOk result (IsReadToEnd (S.remaining source.new)) }
-    ensures cause { IfErr result (IsCheckCause form (A.width arith.old) (S.remaining source.old) (S.remaining source.new)
-        (S.fault_count source.old) (S.fault_count source.new) (K.contents out.old) (K.contents out.new)) }
+    ensures done { IfOk result (Writes (Some (Task.Check form)) (A.width arith.old) (S.remaining source.old) (K.contents out.old) (K.contents out.new)) }
+    ensures end { OnOk result (IsReadOut (Some (Task.Check form)) (S.remaining source.new)) }
+    ensures cause { IfErr result (IsCause (Some (Task.Check form)) (A.width arith.old) (stream (S.remaining source.old) (S.fault_count source.old))
+        (stream (S.remaining source.new) (S.fault_count source.new)) (K.contents out.old) (K.contents out.new)) }
     ensures source_rose { IsErrOf result Refusal.Read → Rose (S.fault_count source.old) (S.fault_count source.new) }
     ensures source_stays { ¬ IsErrOf result Refusal.Read → S.fault_count source.new ≡ S.fault_count source.old }
     ensures source_never_falls { S.fault_count source.old ≤ S.fault_count source.new }

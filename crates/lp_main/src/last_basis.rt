@@ -5,7 +5,7 @@ ghost use Rattle.lp_run.specs.Instance.{IsWellFormed};
 ghost use Rattle.lp_run.specs.Run.{IsRun};
 ghost use Rattle.lp_run.specs.State.{State};
 ghost use Rattle.plain_table.specs.Answers.{IsRunLog};
-ghost use Rattle.lp_main.specs.Serves.{told};
+ghost use Rattle.lp_main.specs.Solves.{told};
 
 use deck_model::{Basis, Log};
 use instance_model::{Instance, basis_of};

@@ -1,11 +1,13 @@
 // A deck, written in its layout.
-ghost use Rattle.std.specs.Prelude.{◌≡◌, ◌≤◌, [], IfErr, IfOk, IfSome, IsErrOf, OnOk};
+ghost use Rattle.std.specs.Prelude.{◌≡◌, ◌≤◌, ℕ, [], IfErr, IfOk, IsErrOf, OnOk, Some};
 ghost use Rattle.io_ends.specs.Count.{Rose};
 ghost use Rattle.deck_tools.specs.Layout.{deck_text};
 ghost use Rattle.deck_tools.specs.Writes.{IsWritten};
 ghost use Rattle.mps_reader.specs.Answers.{IsReadAsNeeded};
 ghost use Rattle.lp_main.specs.Inner.Laying.{IsUnwritten};
-ghost use Rattle.lp_main.specs.Layouts.{IsLayoutCause, LaysOut};
+ghost use Rattle.lp_main.specs.declared.words.Task.{Task};
+ghost use Rattle.lp_main.specs.Ends.{Writes, IsCause};
+ghost use Rattle.lp_main.specs.World.{stream};
 
 use crate::refusal::Refusal;
 use crate::solve::load;
@@ -40,9 +42,9 @@ pub fn lay_out<S: Source, K: Sink>(
     source: &mut S,
     out: &mut K,
 ) -> Result<Answer, Refusal>
-    ensures done { IfOk result (λ answer. (answer ≡ Answer.Done)
-        × IfSome (S.remaining source.old) (LaysOut form (K.contents out.old) (K.contents out.new))) }
-    ensures cause { IfErr result (IsLayoutCause form (S.remaining source.old) (S.remaining source.new) (K.contents out.old) (K.contents out.new)) }
+    ensures done { (w : ℕ) → IfOk result (Writes (Some (Task.Deck form)) w (S.remaining source.old) (K.contents out.old) (K.contents out.new)) }
+    ensures cause { (w : ℕ) → IfErr result (IsCause (Some (Task.Deck form)) w (stream (S.remaining source.old) (S.fault_count source.old))
+        (stream (S.remaining source.new) (S.fault_count source.new)) (K.contents out.old) (K.contents out.new)) }
     ensures needed { IsReadAsNeeded form [] (S.remaining source.old) (S.remaining source.new) }
     ensures source_rose { IsErrOf result Refusal.Read → Rose (S.fault_count source.old) (S.fault_count source.new) }
     ensures source_stays { ¬ IsErrOf result Refusal.Read → S.fault_count source.new ≡ S.fault_count source.old }

@@ -2,10 +2,10 @@
 //!
 //! `main` takes its words, makes the ends of the process, and calls [`top::run_alone`], which solves a deck, checks a report that
 //! stands behind one, writes a deck in its layout, or makes a deck and solves it, and waits for nobody. The contract of
-//! `run_alone` is the relation `Runs` of `specs/Runs.antt`, over any source and any sinks: where they tell their bytes, the bytes
-//! written are the report of the deck's one run by Bland's rule (Bland 1977), as it is asked for, the verdict on a report, the
-//! deck, or the summary of a run; or one line refuses, with its cause. Its clause `works` (`specs/Works.antt`) bounds the products and
-//! quotients of a solve over factors, where each value fits that it works.
+//! `run_alone` is over any source and any sinks, and speaks of their bytes where they tell them. Its clause `truth` (`specs/Truths.antt`)
+//! says that a report that is written or accepted is true of its deck. Its clause `runs` (`specs/Runs.antt`): the bytes written are a reply
+//! that the text may have (`MayReply` of `specs/Ends.antt`), or a beginning of one where an end failed. Its clause `works`
+//! (`specs/Works.antt`): on a deck that is calm no value is too wide, and the products and quotients are bounded.
 //!
 //! Every deck in fixed MPS and in its free form is read, and each fault of a text has its line. Every deck is solved, in two phases: to an optimal
 //! point with prices that prove it, to a Farkas row, which leaves no feasible point, or to a feasible point with a ray along

@@ -1,5 +1,5 @@
 // A transport deck, made and solved.
-ghost use Rattle.std.specs.Prelude.{◌≡◌, List, codes, ◌≤◌, ◌++◌, ◌*◌, IfErr, IfOk, IsErrOf, OnOk, Some};
+ghost use Rattle.std.specs.Prelude.{◌≡◌, List, codes, ◌≤◌, ◌++◌, ◌*◌, ℕ, IfErr, IfOk, IsErrOf, OnOk, Option, Some};
 ghost use Rattle.std.specs.Fmt.{decimal};
 ghost use Rattle.io_ends.specs.Count.{Rose};
 ghost use Rattle.deck_tools.specs.Transport.{transport};
@@ -10,9 +10,11 @@ ghost use Rattle.lp_model.specs.Outcome.{optimal};
 ghost use Rattle.lp_text.specs.Fraction.{fraction_text};
 ghost use Rattle.rational.specs.Rational.{ℚ};
 ghost use Rattle.lp_main.specs.Refusals.{ended};
-ghost use Rattle.lp_main.specs.Ends.{status_of_end};
+ghost use Rattle.lp_main.specs.declared.words.Task.{Task};
+ghost use Rattle.lp_main.specs.Ends.{Writes, IsCause, status_of_end};
 ghost use Rattle.lp_main.specs.Works.{WorksCalmly, counts};
-ghost use Rattle.lp_main.specs.Summaries.{GivesSummary, IsSummaryCause, summary};
+ghost use Rattle.lp_main.specs.Summaries.{summary};
+ghost use Rattle.lp_main.specs.World.{Stream};
 
 use crate::refusal::Refusal;
 use crate::solve::report_of;
@@ -105,8 +107,8 @@ pub fn make_and_solve<R: Threads + Sync, K: Sink, A: Arith>(
 ) -> Result<Answer, Refusal>
     requires some { 1 ≤ size }
     requires few { size ≤ 20 }
-    ensures done { IfOk result (λ answer. (answer ≡ Answer.Done) × GivesSummary size (K.contents out.old) (K.contents out.new)) }
-    ensures cause { IfErr result (IsSummaryCause size (A.width arith.old) (K.contents out.old) (K.contents out.new)) }
+    ensures done { (text : Option (List ℕ)) → IfOk result (Writes (Some (Task.Make size)) (A.width arith.old) text (K.contents out.old) (K.contents out.new)) }
+    ensures cause { (input : Stream) → IfErr result (IsCause (Some (Task.Make size)) (A.width arith.old) input input (K.contents out.old) (K.contents out.new)) }
     ensures no_read { ¬ IsErrOf result Refusal.Read }
     ensures sink_rose { IsErrOf result Refusal.Write → Rose (K.fault_count out.old) (K.fault_count out.new) }
     ensures sink_stays { ¬ IsErrOf result Refusal.Write → K.fault_count out.new ≡ K.fault_count out.old }

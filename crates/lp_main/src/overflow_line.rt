@@ -1,7 +1,7 @@
 // The line of a value that does not fit.
 ghost use Rattle.std.specs.Prelude.{◌≡◌, IfOk};
 ghost use Rattle.std.specs.String.{string_bytes};
-ghost use Rattle.lp_main.specs.Overflow.{index_word, kind_word, overflow_line};
+ghost use Rattle.lp_main.specs.Overflow.{index_word, overflow_line, value_word};
 
 use crate::fault_line::whole_line;
 use lp_model::{Kind, Place};
@@ -9,7 +9,7 @@ use std::alloc::{AllocError, Global};
 
 /// The word of a kind of value.
 fn kind_word(kind: Kind) -> &'static str
-    ensures { result.now ≡ kind_word kind }
+    ensures { result.now ≡ value_word kind }
 {
     match kind {
         Kind::Start => "start",

@@ -16,10 +16,11 @@ ghost use Rattle.mps_reader.specs.Answers.{IsReadAsNeeded};
 ghost use Rattle.bland_ratio.specs.Entries.{stored_entries};
 ghost use Rattle.factor_run.specs.Calm.{IsCalm};
 ghost use Rattle.lp_main.specs.declared.words.Task.{Task};
-ghost use Rattle.lp_main.specs.Ends.{status_of_end};
+ghost use Rattle.lp_main.specs.Ends.{Writes, IsCause, status_of_end};
 ghost use Rattle.lp_main.specs.Works.{IsBounded, Works, counts};
-ghost use Rattle.lp_main.specs.Serves.{Reports, stated};
-ghost use Rattle.lp_main.specs.Solves.{IsCause, IsReadingCause, IsReportCause, IsReportOf, IsWriteCause, refusal_of};
+ghost use Rattle.lp_main.specs.Inner.Solving.{IsReadingCause, IsReportCause, IsReportOf, IsWriteCause, refusal_of};
+ghost use Rattle.lp_main.specs.Solves.{stated};
+ghost use Rattle.lp_main.specs.World.{stream};
 
 use crate::last_basis::told_basis;
 use crate::refusal::Refusal;
@@ -199,8 +200,9 @@ pub fn solve<R: Threads + Sync, S: Source, K: Sink, A: Arith>(
     out: &mut K,
     arith: &mut A,
 ) -> Result<Answer, Refusal>
-    ensures done { IfOk result (λ answer. (answer ≡ Answer.Done) × IfSome (S.remaining source.old) (Reports asked (K.contents out.old) (K.contents out.new))) }
-    ensures cause { IfErr result (IsCause asked (A.width arith.old) (S.remaining source.old) (S.remaining source.new) (K.contents out.old) (K.contents out.new)) }
+    ensures done { IfOk result (Writes (Some (Task.Solve asked)) (A.width arith.old) (S.remaining source.old) (K.contents out.old) (K.contents out.new)) }
+    ensures cause { IfErr result (IsCause (Some (Task.Solve asked)) (A.width arith.old) (stream (S.remaining source.old) (S.fault_count source.old))
+        (stream (S.remaining source.new) (S.fault_count source.new)) (K.contents out.old) (K.contents out.new)) }
     ensures needed { IsReadAsNeeded asked.form [] (S.remaining source.old) (S.remaining source.new) }
     ensures source_rose { IsErrOf result Refusal.Read → Rose (S.fault_count source.old) (S.fault_count source.new) }
     ensures source_stays { ¬ IsErrOf result Refusal.Read → S.fault_count source.new ≡ S.fault_count source.old }

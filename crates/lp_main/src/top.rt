@@ -3,8 +3,9 @@ ghost use Rattle.std.specs.Prelude.{◌≡◌, ◌≤◌, IsErrOf, map};
 ghost use Rattle.std.specs.String.{string_bytes};
 ghost use Rattle.io_ends.specs.Count.{Rose};
 ghost use Rattle.lp_words.specs.Words.{wish_of};
-ghost use Rattle.lp_main.specs.Ends.{LeavesBy, ReadsAsNeeded, status_of_end};
+ghost use Rattle.lp_main.specs.Ends.{LeavesBy, TakesAsNeeded, status_of_end};
 ghost use Rattle.lp_main.specs.Runs.{Runs};
+ghost use Rattle.lp_main.specs.Truths.{IsDoneTruly};
 ghost use Rattle.lp_main.specs.Words.{task_of};
 ghost use Rattle.lp_main.specs.Works.{Works, counts};
 ghost use Rattle.lp_main.specs.World.{stream, world};
@@ -33,8 +34,8 @@ fn serve<R: Threads + Sync, S: Source, K: Sink, A: Arith>(
 ) -> Result<Answer, Refusal>
     ensures leaves { LeavesBy (task_of (wish_of (map string_bytes words.now))) (A.width arith.old)
         (stream (S.remaining input.old) (S.fault_count input.old)) (stream (S.remaining input.new) (S.fault_count input.new))
-        (stream (K.contents out.old) (K.fault_count out.old)) (stream (K.contents out.new) (K.fault_count out.new)) result }
-    ensures needed { ReadsAsNeeded (task_of (wish_of (map string_bytes words.now)))
+        (K.contents out.old) (K.contents out.new) result }
+    ensures needed { TakesAsNeeded (task_of (wish_of (map string_bytes words.now)))
         (stream (S.remaining input.old) (S.fault_count input.old)) (stream (S.remaining input.new) (S.fault_count input.new)) }
     ensures source_rose { IsErrOf result Refusal.Read → Rose (S.fault_count input.old) (S.fault_count input.new) }
     ensures source_stays { ¬ IsErrOf result Refusal.Read → S.fault_count input.new ≡ S.fault_count input.old }
@@ -57,41 +58,32 @@ fn serve<R: Threads + Sync, S: Source, K: Sink, A: Arith>(
 
 /// Does what the words say, and waits for nobody: reads a deck from `input` and writes its report to `out`, or the deck in its
 /// layout, or reads a deck and a report behind it and writes the verdict, or makes a transport deck, solves it and writes a
-/// summary; and says on `err` why it refuses, where it does.
+/// summary; and says on `err` why it refuses, where it does. Where `input` tells the text that it has left:
 ///
-/// What `runs` says, where `input` tells the text that it has left:
-///
-/// - `ends`: the call ends in one way, which has this status. Either `err` gained nothing, and `out` gained what was asked for.
-///   Of a solve that is the report of the one run of the deck that the text is, an optimal point with prices that prove it, a
-///   Farkas row, or a feasible point with a ray, with the run's log and its last basis where they are asked for. Of a check it
-///   is one line: the report behind the deck is accepted, and proves what it states; or the first of the checker's rules that
-///   it breaks; and the input was read to its end. Of `deck` it is the text of the deck in its layout. Of `make` it is the size
-///   of the deck, the moves of its one run, and what that comes to. Or `err` gained the one line of a refusal (a beginning of it,
-///   where a write there failed), and the refusal has its cause: words that ask for nothing that is served; the text's first
-///   fault, or the report's first flaw, or the first number of a deck that has no spelling on a card; a failed read, where what
-///   was taken has no whole line with a fault; a failed write; the first value of the run, or the first sum of the check, that
-///   does not fit the width, with its place or its rule, where a deck to be solved is not calm either; or a run longer than the budget, which is then below the bound of
-///   Bland's theorem. `out` gained nothing, but after a failed write or want of memory it may have a beginning of what was to
-///   be written. Where nothing that is served is asked for, nothing is read and nothing written.
-/// - `needed`: `solve` and `deck` read `input` only as needed, however the call ends: before the last read, of up to 4,096 bytes, no line
-///   that stands whole in the bytes that were read has a fault, none ends the deck, and the bytes are no more than a deck may
-///   have. `make` reads nothing.
-/// - `input_never_falls`, `output_never_falls`: the counts of faults of `input` and `out` do not fall.
-/// - `reads`: either no read failed, so that the count of `input` stands, and the status is not `ReadFault`. Or a read failed,
-///   the count rose, and the status is `ReadFault` or `Memory`: a read was needed after all that was taken, so a solve tries none
-///   behind the line that ends the deck, and none is tried behind a line that has a fault.
-/// - `writes`: either no write failed, so that the count of `out` stands, and the status is not `WriteFault`. Or a write failed
-///   behind a beginning of what was to be written, the count rose, and the status is `WriteFault` or `Memory`.
-/// - `answered`: where neither count rose, a text with a fault has `BadInput` and the line of its first fault, a deck to be
-///   solved whose run ends within the budget and which is calm, or all of whose run's values fit, has `Done`, and a deck to be written has `Done`, or
-///   `BadInput` and the line of its first number without a spelling; or the status is `Memory`.
-///
-/// `works`: where the deck that is to be solved, or that is made, is calm, so that each value fits the width that a solver by
-/// factors works along its run, no result is unfit. Where such a solve is `Done`, with m rows, so many entries and costs that
-/// are not 0, and so many moves in its run, it takes at most (moves + 4)·(4m² + 256m + entries) + (moves/64 + 1)·m³ products and
-/// quotients.
-///
-/// `same_width`: the arithmetic keeps its width.
+/// - `truth`: where a solve is `Done`, `out` gained a report of the deck that the text is, and what the report states is so: no
+///   feasible point is better than its point, and its value is that point's; or no point is feasible; or feasible points pass every
+///   objective. The lists of the report prove it. Where a check is `Done`, that is so of the report behind the deck.
+/// - `runs`: how the call ends, what it replies and what it leaves, in five parts:
+///   - `ends`: in one way, which has this status. Either `err` gained nothing, and `out` gained what was asked for: the report of the
+///     deck's one run by Bland's rule; the verdict on a report, by the first of the checker's rules that it breaks, and the input
+///     was read to its end; the deck in its layout; or the summary of a made deck's run. Or `err` gained the one line of a refusal,
+///     or a beginning of it where a write there failed, and the refusal has its cause: words that ask for nothing that is served,
+///     the first fault of the text or flaw of the report, the first value of the run or sum of the check that does not fit, a spent
+///     budget, which is below the bound of Bland's theorem, the first number without a spelling on a card, a failed read or write,
+///     or want of memory. `out` may have a beginning of what was to be written where a write failed or memory ran out; any other
+///     refusal leaves it as it was.
+///   - `needed`: `solve` and `deck` read only as needed, however the call ends: before the last read no whole line has a fault, none
+///     ends the deck, and the bytes are no more than a deck may have. `make` reads nothing, nor do words that ask for nothing.
+///   - `input_never_falls`, `output_never_falls`: the counts of faults of `input` and `out` do not fall.
+///   - `reads`, `writes`: the count of faults stands, and the status is not that of a failed read or write; or it rose, since a read
+///     failed that was needed, or a write behind a beginning of what was to be written, and the status is that or `Memory`.
+///   - `answered`: where neither count rose, and memory sufficed, a text with a fault has `BadInput` and the line of its first fault;
+///     a deck to be solved whose run ends within the budget has `Done`, or `Overflow` where a value of the run does not fit; and a
+///     deck to be written has `Done`, or `BadInput` and the line of its first number without a spelling.
+/// - `works`: a solve of a deck that is calm, so that each value fits that a solver by factors works along its run, is not refused by
+///   `Overflow`, so that one whose run ends within the budget has `Done`, where `answered` speaks; and no result is unfit. `Done`,
+///   it took at most so many products and quotients, by the rows, entries, costs and moves of the deck's run, as `solve_work` says.
+/// - `same_width`: the arithmetic keeps its width.
 pub fn run_alone<R: Threads + Sync, S: Source, K: Sink, E: Sink, A: Arith>(
     rt: &R,
     alloc: Global,
@@ -101,13 +93,14 @@ pub fn run_alone<R: Threads + Sync, S: Source, K: Sink, E: Sink, A: Arith>(
     err: &mut E,
     arith: &mut A,
 ) -> Status
+    ensures truth { IsDoneTruly (task_of (wish_of (map string_bytes words.now))) (S.remaining input.old) (K.contents out.old) (K.contents out.new) result }
     ensures runs { Runs (task_of (wish_of (map string_bytes words.now))) (A.width arith.old)
         (world (stream (S.remaining input.old) (S.fault_count input.old)) (stream (K.contents out.old) (K.fault_count out.old)) (stream (E.contents err.old) (E.fault_count err.old)))
         (world (stream (S.remaining input.new) (S.fault_count input.new)) (stream (K.contents out.new) (K.fault_count out.new)) (stream (E.contents err.new) (E.fault_count err.new)))
         result }
-    ensures same_width { A.width arith.new ≡ A.width arith.old }
     ensures works { Works (task_of (wish_of (map string_bytes words.now))) (A.width arith.old) (S.remaining input.old)
         (counts (A.unfit_count arith.old) (A.work_count arith.old)) (counts (A.unfit_count arith.new) (A.work_count arith.new)) result }
+    ensures same_width { A.width arith.new ≡ A.width arith.old }
 {
     match serve(rt, alloc, words, input, out, arith) {
         Ok(answer) => answer.status(),

@@ -2,7 +2,7 @@
 ghost use Rattle.std.specs.Prelude.{◌≡◌, IfErr, IfOk, Some, map};
 ghost use Rattle.std.specs.String.{string_bytes};
 ghost use Rattle.lp_words.specs.Words.{wish_of};
-ghost use Rattle.lp_main.specs.Words.{IsServed, IsUnserved, form_of, task_of};
+ghost use Rattle.lp_main.specs.Words.{IsServed, IsUnserved, deck_form, task_of};
 
 use crate::refusal::Refusal;
 use lp_text::Form;
@@ -37,7 +37,7 @@ pub enum Task {
 
 /// The form of a deck, by whether the words ask for the free one.
 fn form_of(free: bool) -> Form
-    ensures { result ≡ form_of free }
+    ensures { result ≡ deck_form free }
 {
     if free { Form::Free } else { Form::Fixed }
 }

@@ -1,17 +1,19 @@
 -- The verdict, or why there is none.
-use Rattle.std.proofs.Common.{subst, sym}
-use Rattle.std.specs.Prelude.{IfSome}
+use Rattle.std.proofs.Common.{Some, subst, sym}
 use Rattle.io_ends.specs.Bytes.{Appends, AppendsPrefix}
-use Rattle.lp_main.specs.Checks.{GivesVerdict}
+use Rattle.lp_main.specs.declared.words.Task.TheVariants.{Check}
+use Rattle.lp_main.specs.Ends.{Writes}
 use Rattle.lp_main.specs.Inner.Checking.{answer_of}
+use Rattle.lp_main.specs.World.{stream}
 use Rattle.lp_main.proofs.Judging.{begun, given, unjudged}
 use Rattle.lp_main.proofs.checking.check.Goals as goal
 
 pub returns-in_err-verdict-clause-cause : goal.returns-in_err-verdict-clause-cause
 returns-in_err-verdict-clause-cause g c =
     unjudged c.args.form (g.A.Arith.width c.args.arith.now) c.in_ok-deck.deck c.in_ok-deck.report c.from_residual-in_err-verdict.result
-    (g.S.Source.remaining c.args.source.now) (g.S.Source.remaining c.read_both.new.source) (g.S.Source.fault_count c.args.source.now)
-    (g.S.Source.fault_count c.read_both.new.source) (g.K.Sink.contents c.args.out.now) c.in_err-verdict.field-0.0
+    (stream (g.S.Source.remaining c.args.source.now) (g.S.Source.fault_count c.args.source.now))
+    (stream (g.S.Source.remaining c.read_both.new.source) (g.S.Source.fault_count c.read_both.new.source))
+    (g.K.Sink.contents c.args.out.now) c.in_err-verdict.field-0.0
     c.in_ok-deck.ensures.told c.in_err-verdict.ensures.cause c.from_residual-in_err-verdict.ensures.1
 
 pub returns-in-Ok-write_all-clause-done : goal.returns-in-Ok-write_all-clause-done
@@ -21,7 +23,7 @@ returns-in-Ok-write_all-clause-done g c =
     let old = g.K.Sink.contents c.args.out.now in
     let new = g.K.Sink.contents c.write_all.new.sink in
     let judged = c.in_ok-verdict.ensures.verdict in
-    subst (λ a. IfSome text (GivesVerdict c.args.form w old new a)) (sym c.answer_of.ensures)
+    subst (Writes (Some (Check c.args.form)) w text old new) (sym c.answer_of.ensures)
     (given c.args.form w c.in_ok-deck.deck c.in_ok-deck.report text old new (answer_of c.in_ok-verdict.verdict) c.in-Ok.line.items c.in_ok-deck.ensures.told
     (c.in-Ok.ensures w judged.0 judged.1) (subst (Appends old new) c.as_slice.ensures.value c.in-Ok-write_all.ensures.appended))
 

@@ -5,7 +5,7 @@ use Rattle.factor_run.specs.Calm.{IsCalm}
 use Rattle.instance_model.specs.Making.{Refuses}
 use Rattle.two_phase.proofs.Grounds.{if_ok}
 use Rattle.lp_main.specs.declared.refusal.Refusal.TheVariants as refusal
-use Rattle.lp_main.specs.Solves.{IsReportCause}
+use Rattle.lp_main.specs.Inner.Solving.{IsReportCause}
 use Rattle.lp_main.proofs.Reporting.{start_cause}
 use Rattle.lp_main.proofs.Working.{start_not_calm, with_start}
 use Rattle.lp_main.proofs.solve.report_of.Goals as goal

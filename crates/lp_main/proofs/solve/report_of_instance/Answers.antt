@@ -4,7 +4,7 @@ use Rattle.crew.specs.Answers.{HasClosed, IsCause}
 use Rattle.lp_run.specs.Instance.{IsWellFormed}
 use Rattle.crew.specs.Inner.Works.{IsCalmFault}
 use Rattle.factor_run.specs.Calm.{IsCalm}
-use Rattle.lp_main.specs.Solves.{IsReportCause}
+use Rattle.lp_main.specs.Inner.Solving.{IsReportCause}
 use Rattle.lp_main.specs.declared.refusal.Refusal.TheVariants as refusal
 use Rattle.lp_main.proofs.Reporting.{budget_cause, closed_run, overflow_cause, report_is, report_or_memory}
 use Rattle.lp_main.proofs.Working.{bounded, for_all}

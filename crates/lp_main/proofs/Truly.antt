@@ -1,0 +1,61 @@
+-- From what is written to what is true of the deck.
+use Rattle.std.proofs.Common.{◌≢◌, ℕ, List, Option, Some, None, sym, subst}
+use Rattle.io_ends.specs.Bytes.{Appends}
+use Rattle.lp_model.specs.Basis.{Basis}
+use Rattle.lp_model.specs.Deck.{Deck}
+use Rattle.lp_model.specs.Outcome.{Outcome, infeasible, optimal, unbounded}
+use Rattle.lp_laws.proofs.WeakDuality.{weak}
+use Rattle.lp_laws.proofs.FarkasGap.{gap}
+use Rattle.lp_laws.proofs.AlongRays.{endless}
+use Rattle.bland_laws.specs.OutcomeProves.{OutcomeProves}
+use Rattle.cert_check.specs.Proved.{Holds, IsProved}
+use Rattle.lp_main.specs.declared.status.Answer.{Answer}
+use Rattle.lp_main.specs.declared.status.Answer.TheVariants as answer
+use Rattle.lp_main.specs.declared.status.Status.{Status}
+use Rattle.lp_main.specs.declared.status.Status.TheVariants as status
+use Rattle.lp_main.specs.declared.words.Task.{Task}
+use Rattle.lp_main.specs.declared.words.Task.TheVariants as task
+use Rattle.lp_main.specs.Codes.{status_of_answer}
+use Rattle.lp_main.specs.Ends.{Writes}
+use Rattle.lp_main.specs.Solves.{stated}
+use Rattle.lp_main.specs.Truths.{IsDoneTruly, IsTrue, Means}
+
+-- what an outcome proves is so
+means : (d : Deck) (o : Outcome) → OutcomeProves d o → Means d o
+means d (optimal x y v) proves = weak d x y proves.0
+means d (infeasible y) proves = gap d y proves
+means d (unbounded x r) proves = endless d x r proves
+
+pub is_true : (d : Deck) (o : Outcome) → OutcomeProves d o → IsTrue d o
+is_true d o proves = record { means = means d o proves; proves = proves }
+
+-- what a check proves
+proved : (d : Deck) (o : Outcome) → IsProved d o → OutcomeProves d o
+proved d (optimal x y v) h = (h.0, sym h.1)
+proved d (infeasible y) h = h
+proved d (unbounded x r) h = h
+
+held : (d : Deck) (o : Outcome) (basis : Option Basis) → Holds d o basis → IsTrue d o
+held d o None h = is_true d o (proved d o h)
+held d o (Some b) h = is_true d o (proved d o h.0)
+
+module _ (w : ℕ) (old new : Option (List ℕ)) where
+  pub truly_done : (what : Option Task) (text : Option (List ℕ)) (a : Answer) → Writes what w text old new a → IsDoneTruly what text old new (status_of_answer a)
+  truly_done None text a gives = tt
+  truly_done (Some (task.Solve asked)) None a gives = λ done. tt
+  truly_done (Some (task.Solve asked)) (Some t) answer.Done (bytes, (d, line, log, o, last, read, solved, run, is), appended) =
+      λ done. (d, line, stated asked log o last, read, subst (λ bytes. Appends old new bytes) is appended, solved.truth)
+  truly_done (Some (task.Solve asked)) (Some t) answer.Refused (bytes, may, appended) = absurd may
+  truly_done (Some (task.Check form)) None a gives = λ done. tt
+  truly_done (Some (task.Check form)) (Some t) answer.Done (bytes, (d, report, tells, verdict), appended) = λ done. (d, report, tells, held d report.outcome report.basis verdict.1)
+  truly_done (Some (task.Check form)) (Some t) answer.Refused gives = λ done. absurd (cc done)
+  truly_done (Some (task.Deck form)) text a gives = tt
+  truly_done (Some (task.Make n)) text a gives = tt
+
+  -- a refusal is not done
+  pub truly_refused : (what : Option Task) (text : Option (List ℕ)) (s : Status) → s ≢ status.Done → IsDoneTruly what text old new s
+  truly_refused None text s other = tt
+  truly_refused (Some (task.Solve asked)) text s other = λ done. absurd (other done)
+  truly_refused (Some (task.Check form)) text s other = λ done. absurd (other done)
+  truly_refused (Some (task.Deck form)) text s other = tt
+  truly_refused (Some (task.Make n)) text s other = tt
