@@ -117,6 +117,21 @@ class Draw:
         return [b"BOUNDS", *lines] if lines else []
 
 
+def vast(chance):
+    """A deck of a row or two and a column or two, of numbers that are a digit and a power of ten: a ratio or the objective may be too wide."""
+
+    def number(least=-1):
+        sign = "-" if least < 0 and chance.random() < 0.4 else ""
+        return f"{sign}{chance.randrange(1, 10)}E{chance.choice((chance.randrange(-30, 30), chance.randrange(-30, 30), 0))}"
+
+    rows, columns = [f"R{i}" for i in range(chance.choice((1, 1, 2)))], [f"X{j}" for j in range(chance.choice((1, 2)))]
+    lines = [b"NAME          VAST", b"ROWS", card("N", "COST"), *(card(chance.choice("LLGE"), row) for row in rows), b"COLUMNS"]
+    lines += [card("", column, (row, number())) for column in columns for row in ["COST", *rows]]
+    lines += [b"RHS", *(card("", "S", (row, number(0))) for row in rows)]
+    ends = [card("UP", "S", (column, number(0))) for column in columns]
+    return lines + ([b"BOUNDS", *ends] if chance.random() < 0.5 else []) + [b"ENDATA", b""]
+
+
 def past(limit, lines):
     """A deck that passes a limit, made of another's lines: before the card of its columns, or before its last line."""
     if limit == "rows":

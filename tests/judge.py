@@ -1,4 +1,4 @@
-"""Judges what the built program answers to a text, by the second reader, the second solver, the second checker, and `glpsol --exact` where that is there."""
+"""Judges what the built program answers to a text, by the second reader, solver, checker and writer, and `glpsol --exact` where that is there."""
 import os
 import shutil
 import subprocess
@@ -9,11 +9,14 @@ import zlib
 from second_checker import Broken, Flaw, check, parse
 from second_reader import Fault, read
 from second_solver import WITHOUT_TABLE, Overflow, Spent, report_text, solve
+from second_writer import Wide, deck_text
 
 HERE = os.path.dirname(os.path.dirname(os.path.abspath(__file__)))
 LP = os.path.join(HERE, "crates", "lp_main", "out", "lp_main")
 # What is asked of the program, in turn: both versions of the report, with the log and without.
 WORDS = [["solve", "--workers", "0", *log, *report] for log in ([], ["--log"]) for report in (["--report", "1"], [])]
+# One text in so many is solved with a budget of so few moves.
+EVERY, FEW = 8, 2
 GLPSOL = shutil.which("glpsol")
 
 
@@ -71,9 +74,16 @@ def is_near(found, value):
     return abs(found - float(value)) <= 1e-8 * max(1.0, abs(float(value)))
 
 
-def words_for(text):
-    """The words for a text, which are the same each time."""
-    return WORDS[zlib.crc32(text) % len(WORDS)]
+def words_for(text, by_solver=True):
+    """The words for a text, which are the same each time; only where the second solver knows what must come may the moves be few."""
+    drawn = zlib.crc32(text)
+    is_short = by_solver and drawn // len(WORDS) % EVERY == 0
+    return WORDS[drawn % len(WORDS)] + (["--budget", str(FEW)] if is_short else [])
+
+
+def budget_for(text):
+    """The moves that the run of a text may take."""
+    return FEW if "--budget" in words_for(text) else 1_000_000
 
 
 def wanted(text, by_solver=True, free=False):
@@ -91,12 +101,17 @@ def wanted(text, by_solver=True, free=False):
     if not by_solver:
         return "solved", 0, "", None, deck
     try:
-        solved = solve(deck)
+        solved = solve(deck, budget=budget_for(text))
     except Overflow as place:
         return f"overflow of {place.kind}", 6, str(place), b"", None
     except Spent as spent:
-        return "budget", 7, f"lp: budget spent after {spent} moves", b"", None
+        return "budget", *spent_line(spent)
     return solved.outcome.lower(), 0, "", report_of(deck, solved, text), deck
+
+
+def spent_line(spent):
+    """What is answered where the budget is spent."""
+    return 7, f"lp: budget spent after {spent} moves", b"", None
 
 
 def report_of(deck, solved, text):
@@ -111,9 +126,11 @@ def in_place_of_overflow(text, free):
     """
     deck = read(text, free)
     try:
-        return 0, "", report_of(deck, solve(deck, kinds=WITHOUT_TABLE), text), deck
+        return 0, "", report_of(deck, solve(deck, budget=budget_for(text), kinds=WITHOUT_TABLE), text), deck
     except Overflow as place:
         return (6, str(place), b"", None) if place.kind == "total" else None
+    except Spent as spent:
+        return spent_line(spent)
 
 
 def fault_of_report(deck, written):
@@ -136,7 +153,7 @@ def judge(text, by_solver=True, seconds=120, free=False):
     """The kind of answer that a text must have, and what is wrong with the program's, if anything is."""
     kind, status, line, bytes_written, deck = wanted(text, by_solver, free)
     try:
-        done = subprocess.run([LP, *words_for(text), *(["--free"] if free else [])], input=text, capture_output=True, timeout=seconds)
+        done = subprocess.run([LP, *words_for(text, by_solver), *(["--free"] if free else [])], input=text, capture_output=True, timeout=seconds)
     except subprocess.TimeoutExpired:
         return kind, f"it does not end within {seconds} seconds"
     said = done.stderr.decode(errors="replace").removesuffix("\n")
@@ -152,3 +169,13 @@ def judge(text, by_solver=True, seconds=120, free=False):
         return kind, f"it wrote {done.stdout[:300]} in place of {bytes_written[:300]}"
     return kind, None
 
+
+def fault_of_layout(text, free=False):
+    """What is wrong with the deck that the program writes of a text, or with its refusal, if anything is."""
+    try:
+        wanted = 0, deck_text(read(text, free), free), ""
+    except (Fault, Wide) as fault:
+        wanted = 3, b"", str(fault)
+    done = subprocess.run([LP, "deck", *(["--free"] if free else [])], input=text, capture_output=True, timeout=120)
+    said = done.returncode, done.stdout, done.stderr.decode(errors="replace").removesuffix("\n")
+    return None if said == wanted else f"deck: {said} in place of {wanted}"

@@ -9,7 +9,7 @@ import sys
 from dataclasses import dataclass, field
 from fractions import Fraction
 
-from second_reader import Fault, read
+from second_reader import Failed, Fault, read
 
 LONGEST, BYTES, WIDTH = 255, 33_554_432, 127
 NUMBER = re.compile(rb"-?[1-9]\d*(/[1-9]\d*)?|0")
@@ -58,18 +58,18 @@ def fits(value, width):
 
 
 class Lines:
-    """The lines of a report, each asked for by what it must be."""
+    """The lines of a report, each asked for by what it must be. Where the read behind the text fails, a line that has not ended is none."""
 
-    def __init__(self, text):
-        self.lines = text.split(b"\n")
+    def __init__(self, text, fails=False):
+        self.lines, self.fails = text.split(b"\n"), fails
         self.at, self.used = 0, 0
-        if self.lines[-1] == b"":
+        if fails or self.lines[-1] == b"":
             self.lines.pop()
 
     def next(self):
         self.at += 1
         if self.at > len(self.lines):
-            raise Flaw(self.at, "missing")
+            raise Failed if self.fails else Flaw(self.at, "missing")
         line = self.lines[self.at - 1]
         self.used += len(line) + 1
         if self.used > BYTES:
@@ -151,9 +151,9 @@ def basis(lines, deck):
     return basic, upper
 
 
-def parse(deck, text):
+def parse(deck, text, fails=False):
     """The report of a text, which is one of this deck; the first flaw is raised."""
-    lines = Lines(text)
+    lines = Lines(text, fails)
     version = lines.fixed(b"LPCERT 1", b"LPCERT 2")
     rest = lines.words(b"DECK", 1)
     lines.must(rest == [deck.name], "name")
@@ -179,6 +179,8 @@ def parse(deck, text):
         lines.fixed(b"END")
     if lines.at < len(lines.lines):
         raise Flaw(lines.at + 1, "rest")
+    if fails:
+        raise Failed
     return report
 
 
@@ -315,17 +317,19 @@ def check(deck, report, width=WIDTH):
         walk.basis(report)
 
 
-def answer(text, greatest=False):
+def answer(text, greatest=False, free=False, fails=False):
     """The status of a check of a deck and the report behind it, the line on standard output, and the one on standard error."""
     try:
-        deck = read(text)
+        deck = read(text, free, fails)
         if greatest:
             deck.sense = -1
         own = text.split(b"\n", deck.last_line)[deck.last_line :]
-        report = parse(deck, own[0] if own else b"")
+        report = parse(deck, own[0] if own else b"", fails)
         check(deck, report)
     except Fault as fault:
         return 3, "", str(fault)
+    except Failed as failed:
+        return 4, "", str(failed)
     except Flaw as flaw:
         return 3, "", f"lp: report line {deck.last_line + flaw.args[0]}: {flaw.args[1]}"
     except Broken as rule:

@@ -34,6 +34,13 @@ class Fault(Exception):
     """The first fault of a text, by its line on standard error."""
 
 
+class Failed(Exception):
+    """A read that failed, before a line that has ended had a fault or was the last, by its line on standard error."""
+
+    def __init__(self):
+        super().__init__("lp: read failed")
+
+
 @dataclass
 class Row:
     name: bytes
@@ -306,13 +313,15 @@ class Reader:
         return Deck(self.title, objective, rows, columns, -self.rights.get(objective, Fraction(0)), self.line, self.sense or 1)
 
 
-def read(text, free=False):
-    """The deck of a text, in fixed columns or in free form; its first fault is raised."""
+def read(text, free=False, fails=False):
+    """The deck of a text, in fixed columns or in free form; its first fault is raised. Where the read behind the text fails, only lines that ended count."""
     reader, lines = Reader(free), text.split(b"\n")
-    ended = [(line, True) for line in lines[:-1]] + ([(lines[-1], False)] if lines[-1] else [])
+    ended = [(line, True) for line in lines[:-1]] + ([(lines[-1], False)] if lines[-1] and not fails else [])
     for line, is_ended in ended:
         if reader.take(line, is_ended):
             return reader.finish()
+    if fails:
+        raise Failed
     raise Fault(f"lp: deck ends without ENDATA after {len(ended)} lines")
 
 

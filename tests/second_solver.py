@@ -95,8 +95,8 @@ class Run:
             signs.append(self.start_row(i, residual))
             least, greatest = row.interval()
             if row.range is not None and not (row.kind == "E" and row.range == 0):
-                self.put(least, "start", i, None)
-                self.put(greatest, "start", i, None)
+                # the end that the range gives; the other is the right side
+                self.put(least if greatest == row.right else greatest, "start", i, None)
         for p in range(m):
             line = [ZERO] * self.all
             for j, number in [*by_row[p], (n + p, ONE), (n + m + p, signs[p])]:

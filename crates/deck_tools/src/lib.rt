@@ -30,6 +30,3 @@ mod write;
 pub use fault::DeckWriteFault;
 pub use making::make;
 pub use write::write_deck;
-
-#[cfg(test)]
-mod tests;

@@ -35,8 +35,6 @@ mod overflow_line;
 mod refusal;
 mod solve;
 mod status;
-#[cfg(test)]
-mod tests;
 mod top;
 mod verdict_line;
 mod words;
