@@ -1,4 +1,4 @@
-// The peer of crates/bench_arith: fractions over 128-bit integers on the same streams, in two ways.
+// The peer of `bench_parts arith`: fractions over 128-bit integers on the same streams, in two ways.
 // `textbook`: by std::gcd. Sums and products divide by common divisors before they multiply, and each product and sum is checked;
 // an order is that of the cross products, in 256 bits where 128 do not hold them.
 // `same`: the method of `exact_frac`. A binary divisor in 64 bits as soon as both numbers fit them, no divisor beside 0 and 1 and

@@ -1,4 +1,4 @@
-// The peer of crates/bench_factors: the factors of the same matrices by the same method (lu.hh). Last it prints how many stored entries its solves and updates met.
+// The peer of `bench_parts factors`: the factors of the same matrices by the same method (lu.hh). Last it prints how many stored entries its solves and updates met.
 #include <cstdio>
 #include <cstring>
 #include <initializer_list>

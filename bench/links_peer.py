@@ -1,5 +1,5 @@
 #!/usr/bin/env python3
-"""What `bench_links` prints for three words, by plain lists: a second reader of its drawing, its search and its elimination."""
+"""What `bench_parts links` prints for three words, by plain lists: a second reader of its drawing, its search and its elimination."""
 import sys
 
 MASK = (1 << 64) - 1

@@ -15,14 +15,24 @@ A call is unfit at a width of w bits exactly where one of its worked values has 
 
 A product of a zero factor is skipped, and nothing is left anew by it.
 
-Run by itself it prints what `bench_factors widths` prints: that program's stdout is this script's. `--check` compares it with the stored one.
+Run by itself it prints the table of widths that `bench_parts factors calls` begins with. `--check` compares it with the stored run of that program, and judges
+the answers at full width that stand behind it there: each solution is multiplied back by the matrix as it is then; each matrix that is called dependent has no
+inverse by plain elimination, and a combination of its rows by the numbers given is 0; and each chain of exchanges comes to 64 updates and no more.
 """
 import os
 import sys
 from fractions import Fraction
 
 MASK = (1 << 64) - 1
-STORED = os.path.join(os.path.dirname(os.path.dirname(os.path.abspath(__file__))), "crates", "bench_factors", "stdout")
+STORED = os.path.join(os.path.dirname(os.path.dirname(os.path.abspath(__file__))), "crates", "bench_parts", "stdout")
+# A basis takes so many updates.
+UPDATES = 64
+# Chains of exchanges: how many rows, and one number in how many that are drawn may differ from 0.
+CHAINS = ((9, 4), (70, 40))
+# The columns (1, 2) and (2, 4), and the numbers by which their rows combine to 0, by hand: the pivot is the first entry, its column's multiplier 2, and the
+# second row, left without a pivot, is the combination.
+MULTIPLES = [[1, 2], [2, 4]]
+COMBINATION = ["-2", "1"]
 
 
 class Listing:
@@ -169,14 +179,14 @@ class Draws:
         self.state = (self.state * 6_364_136_223_846_793_005 + 1_442_695_040_888_963_407) & MASK
         return (self.state ^ (self.state >> 32)) % bound
 
-    def number(self):
-        if self.below(2) == 0:
+    def number(self, rare):
+        if self.below(rare) + 1 < rare:
             return Fraction(0)
         numerator = self.below(9) - 4
         return Fraction(numerator, self.below(3) + 1)
 
-    def vector(self, size):
-        return [self.number() for _ in range(size)]
+    def vector(self, size, rare=2):
+        return [self.number(rare) for _ in range(size)]
 
 
 class Case:
@@ -227,8 +237,7 @@ class Case:
         self.say(listing, [])
 
 
-def table():
-    draws = Draws()
+def table(draws):
     for size in range(7):
         for bits in range(1, 21):
             for _ in range(3):
@@ -236,15 +245,146 @@ def table():
     yield f"checksum {Case.checksum:016x}\n"
 
 
+# The basis of a blending problem at its optimum: five rows of feeds, four of demands, three of qualities.
+BLEND = [
+    [1, 0, 0, 0, 0, 0, 0, 0, 0, 0, 0, 0],
+    [0, 1, 0, 0, 0, 0, 0, 0, 0, 0, 0, 0],
+    [0, 0, 1, 0, 0, 0, 0, 0, 0, 0, 0, 0],
+    [0, 0, 0, 0, 1, 0, 0, 0, 0, 0, 0, 0],
+    [0, 1, 0, 0, 0, 1, 0, 0, 0, -5, 0, 0],
+    [0, 1, 0, 0, 0, 0, 1, 0, 0, 0, -3, 0],
+    [0, 1, 0, 0, 0, 0, 0, 1, 0, 0, 0, -7],
+    [0, 1, 0, 0, 0, 0, 0, 0, 1, 0, 0, 0],
+    [0, 0, 1, 0, 0, 1, 0, 0, 0, 0, 0, 0],
+    [0, 0, 0, 1, 0, 1, 0, 0, 0, 5, 0, 0],
+    [0, 0, 0, 1, 0, 0, 1, 0, 0, 0, 7, 0],
+    [0, 0, 0, 1, 0, 0, 0, 1, 0, 0, 0, 3],
+]
+
+
+def unit(size, row):
+    return [Fraction(int(i == row)) for i in range(size)]
+
+
+def dot(x, y):
+    return sum((a * b for a, b in zip(x, y) if a and b), Fraction(0))
+
+
+def are_independent(columns):
+    """Whether the columns are independent, by plain elimination."""
+    lines = [list(column) for column in columns]
+    while lines:
+        pivot = lines.pop()
+        place = next((i for i, item in enumerate(pivot) if item), None)
+        if place is None:
+            return False
+        for line in lines:
+            factor = line[place] / pivot[place]
+            if factor:
+                line[:] = [a - factor * b for a, b in zip(line, pivot)]
+    return True
+
+
+class Judge:
+    """The answers for one matrix at full width, judged without factors: the words are those that the program printed."""
+
+    def __init__(self, draws, columns, words):
+        self.draws, self.columns, self.words, self.updates = draws, [[Fraction(item) for item in items] for items in columns], words, 0
+        self.size, self.failed = len(columns), []
+
+    def wants(self, holds, what):
+        if not holds:
+            self.failed.append(what)
+
+    def numbers(self):
+        said, self.words = self.words[: self.size], self.words[self.size :]
+        self.wants(len(said) == self.size, "too few numbers")
+        return [Fraction(word) for word in said]
+
+    def word(self):
+        return self.words.pop(0) if self.words else "nothing"
+
+    def is_factored(self):
+        """Judges what factoring says, and tells whether there are factors."""
+        word, is_regular = self.word(), are_independent(self.columns)
+        self.wants(word == ("fits" if is_regular else "dependent"), f"factoring says {word}")
+        if word == "dependent":
+            numbers = self.numbers()
+            self.wants(any(numbers) and not any(dot(numbers, column) for column in self.columns), "no combination of the rows that is 0")
+        return word == "fits"
+
+    def solve(self, items):
+        for is_row in (False, True):
+            self.wants(self.word() == "fits", "a solve does not fit")
+            answer = self.numbers()
+            back = [dot(answer, column) for column in self.columns] if is_row else [dot(answer, row) for row in zip(*self.columns)]
+            self.wants(back == items, "a row's solution" if is_row else "a column's solution")
+
+    def exchange(self, rare, has_own):
+        word = self.word()
+        if not self.size or self.updates == UPDATES:
+            self.wants(word == "none", f"an exchange too many says {word}")
+            return
+        p, items = self.draws.below(self.size), self.draws.vector(self.size, rare)
+        if has_own:
+            items[p] = Fraction(2)
+        columns = self.columns[:p] + [items] + self.columns[p + 1 :]
+        is_regular = are_independent(columns)
+        self.wants(word == ("fits" if is_regular else "dependent"), f"an exchange says {word}")
+        if is_regular:
+            self.columns, self.updates = columns, self.updates + 1
+
+
+def drawn(draws, size, is_repeated):
+    """Drawn columns, of which the last may be the one before it again, or 0 where there is none."""
+    columns = [draws.vector(size) for _ in range(size - is_repeated)]
+    return columns + [columns[-1] if columns else [Fraction(0)]] if is_repeated and size else columns
+
+
+def judged(draws, text):
+    """Judges the answers that the program printed, a judge for each matrix: a line with a blank at its head goes on with the line before it."""
+    cases = [case.split() for case in text.replace("\n ", " ").split("\n") if case]
+
+    def judge(columns, rounds, rare=2, is_chain=False):
+        words, head = cases.pop(0) if cases else [], f"{len(columns)} rows, 127 bits:".split()
+        at = Judge(draws, columns, words[len(head) :])
+        at.wants(words[: len(head)] == head, f"it begins with {words[:4]}")
+        for row in range(rounds) if at.is_factored() else ():
+            if columns is BLEND:
+                at.solve(unit(at.size, row))
+            else:
+                at.solve(draws.vector(at.size, rare))
+                at.exchange(rare, is_chain)
+        at.wants(not at.words, f"words behind: {at.words[:3]}")
+        at.wants(not is_chain or at.updates == UPDATES, f"{at.updates} updates")
+        return at
+
+    multiples = cases[0][-3:] if cases else []
+    judges = [judge(MULTIPLES, 0), judge(BLEND, 12)]
+    judges[0].wants(multiples == ["dependent", *COMBINATION], f"{multiples}")
+    judges += [judge([unit(size, row) for row in range(size)], 80, rare, True) for size, rare in CHAINS]
+    judges += [judge(drawn(draws, size, k % 3 == 0), 2) for size in range(13) for k in range(12)]
+    judges[-1].wants(not cases, f"{len(cases)} matrices too many")
+    return judges
+
+
 def main():
-    text = "".join(table())
+    draws = Draws()
+    text = "".join(table(draws))
     if sys.argv[1:] != ["--check"]:
         sys.stdout.write(text)
         return 0
     with open(STORED, encoding="utf-8") as stored:
-        same = stored.read() == text
-    print(f"{int(same)} passed, {int(not same)} failed")
-    return 0 if same else 1
+        _, found, answers = stored.read().partition(text)
+    if not found:
+        print("failed: the table of widths is another one", file=sys.stderr)
+    judges = judged(draws, answers)
+    failed = [(number, what) for number, judge in enumerate(judges) for what in judge.failed[:1]]
+    for number, what in failed:
+        print(f"failed: matrix {number}, {judges[number].size} rows: {what}", file=sys.stderr)
+    passed = bool(found) + len(judges) - len(failed)
+    print(f"{passed} passed, {len(judges) + 1 - passed} failed")
+    return 0 if passed > len(judges) else 1
 
 
 if __name__ == "__main__":

@@ -1,11 +1,13 @@
 //! The program `tests_widths`: a deck, solved at narrow widths.
 //!
 //! - **What it is.** The words are widths in bits, from 1 to 127. The program reads a deck in fixed columns from standard input, solves it at each of them, and prints a line
-//!   for each: the width, and the outcome with the numbers that prove it and the count of moves; or the place of the value that does not fit.
+//!   for each: the width, and the outcome with the numbers that prove it and the count of moves; or the place of the value that does not fit. For a width behind
+//!   the word `rounds` it prints a line for each round of the board instead: the width, and the board's number, updates, epoch, mode and standing after it.
 //! - **How it is used.** `tests/widths` draws decks and compares each line with what the second solver finds at that width, where all values of the plain
-//!   table are to fit, and where those are left out that a solver by factors does not work.
-//! - **The contract.** Safety alone. What a solve answers at a width is promised by `crew`.
-//! - **Stands on** `mps_reader` for the deck, `crew` for the solve, and `frac_text` for numbers.
+//!   table are to fit, and where those are left out that a solver by factors does not work; and the rounds with those that are worked out by hand, or that
+//!   the second solver's log tells.
+//! - **The contract.** Safety alone. What a solve answers at a width is promised by `crew`, what a round comes to by `two_phase`.
+//! - **Stands on** `mps_reader` for the deck, `crew` for the solve, `two_phase` for the rounds, and `frac_text` for numbers.
 #![tactic(auto)]
 
 ghost use Rattle.std.specs.Prelude.{◌≤◌};
@@ -26,6 +28,8 @@ use std::process::ExitCode;
 use std::rt::Env;
 use std::sync::Arc;
 use std::thread::Threads;
+
+mod rounds;
 
 /// How many moves a run may have.
 const BUDGET: u64 = 1_000_000;
@@ -168,7 +172,8 @@ fn line<R: Threads + Sync>(
     Ok(text)
 }
 
-/// Reads the deck, and writes a line for each width; none where a word is no width, the text is no deck, or an end or memory fails.
+/// Reads the deck, and writes what each width comes to; nothing more where a word is no width,
+/// the text is no deck, a call on the board is refused, or an end or memory fails.
 fn run<R: Threads + Sync, S: Source, K: Sink>(
     rt: &R,
     alloc: Global,
@@ -178,12 +183,21 @@ fn run<R: Threads + Sync, S: Source, K: Sink>(
 ) -> Option<()> {
     let mut lines = LineReader::new(alloc).ok()?;
     let deck = read_deck(alloc, &mut lines, source, Form::Fixed).ok()?;
+    let mut has_rounds = false;
     for word in words {
+        if word.as_str() == "rounds" {
+            has_rounds = true;
+            continue;
+        }
         let width = word.as_str().parse::<u32>().ok()?;
         if width == 0 || width > 127 {
             return None;
         }
-        let text = line(rt, alloc, &deck, width).ok()?;
+        let text = if has_rounds {
+            rounds::rounds(rt, alloc, &deck, width)?
+        } else {
+            line(rt, alloc, &deck, width).ok()?
+        };
         write_all(out, text.as_slice()).ok()?;
     }
     Some(())
