@@ -8,7 +8,8 @@ use Rattle.bland_ratio.specs.Pricing.{IsChoiceOf, IsExactTicket, IsTicketOf}
 use Rattle.bland_ratio.specs.declared.tickets.Choice.{Choice}
 use Rattle.bland_ratio.specs.declared.tickets.Ticket.{Ticket}
 use Rattle.two_phase.specs.Board.{BoardStands, IsChoiceFor, IsClosingCause, IsRecordCause, IsSameRun, IsStandingOf, IsStartCause, IsTicketCause, IsUnmoved, standing_on, state_of}
-use Rattle.two_phase.specs.Inner.Grounds.{GroundStands}
+use Rattle.two_phase.specs.Spent.{IsSpentAt}
+use Rattle.two_phase.specs.Inner.Grounds.{Asks, GroundStands}
 use Rattle.two_phase.specs.declared.board.Board.{Board}
 use Rattle.two_phase.specs.declared.standing.BoardFault.{BoardFault}
 use Rattle.two_phase.specs.declared.standing.BoardFault.TheVariants as board
@@ -25,8 +26,8 @@ use Rattle.crew.specs.declared.faults.CrewFault.TheVariants as fault
 module _ {A : Type 0} (w : ℕ) (b : Board A) (h : BoardStands w b) where
   -- ── what is asked ──
 
-  pub asks : (ticket : Ticket) → IsExactTicket b.inst.value (state_of b) ticket → IsTicketOf b.inst.value ticket
-  asks ticket exact = exact_ticket w b.inst.value h.well_formed b.log b.ground h.stands ticket exact
+  pub ticket_of : (ticket : Ticket) → IsExactTicket b.inst.value (state_of b) ticket → IsTicketOf b.inst.value ticket
+  ticket_of ticket exact = exact_ticket w b.inst.value h.well_formed b.log b.ground h.stands ticket exact
 
   pub choice_for : (ticket : Ticket) (choice : Choice) → IsExactTicket b.inst.value (state_of b) ticket → ticket.number ≡ length b.log → IsChoiceOf w b.inst.value ticket choice → IsChoiceFor w b choice
   choice_for ticket choice exact number is =
@@ -76,7 +77,10 @@ module _ {A : Type 0} (w : ℕ) (b : Board A) (h : BoardStands w b) where
   pub spent_cause : standing_on b ≡ standing.Spent → (f : CrewFault) (budget : ℕ) → b.budget ≡ budget → f ≡ fault.Budget budget → IsCause w b.inst.value budget f
   spent_cause spent f budget same is =
       subst (IsCause w b.inst.value budget) (sym is)
-      (refl, subst (IsSpent b.inst.value) same (subst (IsStandingOf b.inst.value b.budget (state_of b)) spent (stands_so w b h)))
+      (refl, subst (IsSpent b.inst.value) same (by (subst (IsStandingOf b.inst.value b.budget (length b.log) (state_of b)) spent (stands_so w b h))))
+    where
+      by : IsSpentAt b.inst.value b.budget (length b.log) (state_of b) → IsSpent b.inst.value b.budget
+      by (log, e, run, number, count, next, is) = (log, state_of b, e, run, next, is, count)
 
 -- an end that is none because the budget is spent
 pub ended_cause : {A X : Type 0} (w : ℕ) (b : Board A) → BoardStands w b → (inst : Instance) → b.inst.value ≡ inst → (budget : ℕ) → b.budget ≡ budget → (s : Standing) → standing_on b ≡ s
@@ -86,17 +90,17 @@ ended_cause w b h inst is budget same s there (Err f) told = subst (λ i. IsCaus
 
 -- a ticket of a board whose mode may have changed since, and its choice
 module _ {A : Type 0} (w : ℕ) (old new : Board A) (h : BoardStands w new) (same : IsSameRun old new) (unmoved : IsUnmoved old new) (ticket : Ticket)
-    (exact : IsExactTicket old.inst.value (state_of old) ticket) (number : ticket.number ≡ length old.log) (i : Instance) (is : i ≡ new.inst.value) where
+    (asks : Asks old.inst.value old.log new.ground ticket) (i : Instance) (is : i ≡ new.inst.value) where
   exact_now : IsExactTicket new.inst.value (state_of new) ticket
-  exact_now = subst (λ a. IsExactTicket a.value (state_of new) ticket) (sym same.instance) (subst (λ s. IsExactTicket old.inst.value s ticket) (sym unmoved.state) exact)
+  exact_now = subst (λ a. IsExactTicket a.value (state_of new) ticket) (sym same.instance) asks.exact
 
   pub asked : IsTicketOf i ticket
-  asked = subst (λ i. IsTicketOf i ticket) (sym is) (asks w new h ticket exact_now)
+  asked = subst (λ i. IsTicketOf i ticket) (sym is) (ticket_of w new h ticket exact_now)
 
   pub chosen_for : (u v : ℕ) → u ≡ w → v ≡ w → (choice : Choice) → IsChoiceOf u i ticket choice → IsChoiceFor v new choice
   chosen_for u v width there choice chosen =
       subst (λ v. IsChoiceFor v new choice) (sym there)
-      (choice_for w new h ticket choice exact_now (number ∙ ap length (sym unmoved.log)) (subst (λ u. IsChoiceOf u new.inst.value ticket choice) width (subst (λ i. IsChoiceOf u i ticket choice) is chosen)))
+      (choice_for w new h ticket choice exact_now (asks.number ∙ ap length (sym unmoved.log)) (subst (λ u. IsChoiceOf u new.inst.value ticket choice) width (subst (λ i. IsChoiceOf u i ticket choice) is chosen)))
 
 -- no board is made
 module _ (w : ℕ) (inst : Instance) (before later : ℕ) where

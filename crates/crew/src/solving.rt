@@ -1,19 +1,21 @@
 //! The run of an instance.
-ghost use Rattle.std.specs.Prelude.{◌≡◌, ◌≢◌, ℕ, ◌+◌, ◌≤◌, false, length, IfErr, IfOk, OnOk};
+ghost use Rattle.std.specs.Prelude.{◌≡◌, ◌≢◌, ◌↔◌, ℕ, ◌+◌, ◌≤◌, false, length, IfErr, IfOk, OnOk};
 ghost use Rattle.lp_run.specs.Listing.{StartFits};
-ghost use Rattle.bland_ratio.specs.Pricing.{IsExactTicket};
-ghost use Rattle.two_phase.specs.Board.{BoardStands, HasEnded, HasGivenUp, HasNoCause, IsChoiceFor, IsSameRun, IsUnmoved, Records, standing_on, state_of};
+ghost use Rattle.exact_frac.specs.Count.{raised};
+ghost use Rattle.two_phase.specs.Board.{AreBuilt, BoardStands, HasEnded, HasGivenUpFor, HasNoCause, IsChoiceFor, IsSameRun, IsUnmoved, Records, standing_on};
+ghost use Rattle.two_phase.specs.Modes.{mode_of};
+ghost use Rattle.two_phase.specs.declared.standing.Mode.{Mode};
 ghost use Rattle.two_phase.specs.declared.standing.Standing.{Standing};
 ghost use Rattle.lp_model.specs.Log.{moves};
 ghost use Rattle.lp_run.specs.Instance.{row_count};
 ghost use Rattle.bland_ratio.specs.Entries.{nonzero_costs, stored_entries};
 ghost use Rattle.factor_run.specs.Bound.{making_work, solve_work};
 ghost use Rattle.factor_run.specs.Calm.{IsCalm};
-ghost use Rattle.two_phase.specs.Inner.Grounds.{IsPlain};
+ghost use Rattle.two_phase.specs.Inner.Grounds.{Asks, IsPlain, WantsTable};
 ghost use Rattle.two_phase.specs.Works.{ground_owed, move_work, recorded_work};
 ghost use Rattle.two_phase.specs.Tally.{HasRoundWorked, HasWorked, IsFresh};
 ghost use Rattle.crew.specs.Answers.{IsCause, Solves};
-ghost use Rattle.crew.specs.Inner.Works.{IsCalmFault};
+ghost use Rattle.crew.specs.Inner.Works.{HasRisen, IsCalmFault};
 ghost use Rattle.crew.specs.Inner.Faults.{IsFaultFor, IsHandedOn};
 ghost use Rattle.crew.specs.Inner.Rounds.{GoesOn};
 ghost use Rattle.crew.specs.declared.faults.CrewFault.{CrewFault};
@@ -29,10 +31,10 @@ use two_phase::{Board, BoardFault, CloseFault, Closed, NewFault, Recorded, Stand
 
 /// The outcome of an instance, by its one Bland run of at most so many moves, over factors of its bases; where a value that
 /// is worked with them does not fit the width, on a plain table, whose rows are worked in several threads where it is large.
-/// The counts of all arithmetic used come into `arith`. On a calm instance, of m rows and so many entries (the stored entries of
-/// the structurals and their costs that are not 0), no result is unfit, and a run of so many moves takes at most
-/// (moves + 4)·(4m² + 256m + entries) + (moves/64 + 1)·m³ products and quotients, less one for each stored entry, which is left
-/// to the making of the instance.
+/// The counts of the arithmetic used come into `arith`; an overflow has raised that of unfit results. On a calm instance, of
+/// m rows and so many entries (the stored entries of the structurals and their costs that are not 0), no result is unfit, and
+/// a run of so many moves takes at most (moves + 4)·(4m² + 256m + entries) + (moves/64 + 1)·m³ products and quotients, less
+/// one for each stored entry, which is left to the making of the instance.
 ///
 /// # Errors
 ///
@@ -49,6 +51,7 @@ pub fn solve_alone<R: Threads + Sync, A: Arith>(
     ensures solves { Solves (A.width arith.old) inst.value budget result }
     ensures width { A.width arith.new ≡ A.width arith.old }
     ensures unfit { A.unfit_count arith.old ≤ A.unfit_count arith.new }
+    ensures rose { IfErr result (HasRisen (A.unfit_count arith.old) (A.unfit_count arith.new)) }
     ensures calm { IsCalm (A.width arith.old) inst.value → (A.unfit_count arith.new ≡ A.unfit_count arith.old) × IfErr result IsCalmFault }
     ensures work { IsCalm (A.width arith.old) inst.value → IfOk result (λ closed. A.work_count arith.new + stored_entries inst.value ≤ A.work_count arith.old + solve_work inst.value closed.moves) }
 {
@@ -76,8 +79,9 @@ fn go_on<R: Threads + Sync, A: Arith>(
     ensures solves { Solves (A.width arith.old) board.inst.value board.budget result }
     ensures width { A.width arith.new ≡ A.width arith.old }
     ensures unfit { A.unfit_count arith.old ≤ A.unfit_count arith.new }
-    ensures calm { IsCalm (A.width arith.old) board.inst.value → IsFresh board → A.unfit_count board.arith ≡ 0 → (A.unfit_count arith.new ≡ A.unfit_count arith.old) × IfErr result IsCalmFault }
-    ensures work { IsCalm (A.width arith.old) board.inst.value → IsFresh board → A.work_count board.arith ≤ stored_entries board.inst.value + making_work board.inst.value
+    ensures rose { IfErr result (HasRisen (A.unfit_count arith.old) (A.unfit_count arith.new)) }
+    ensures calm { IsCalm (A.width arith.old) board.inst.value → IsFresh (A.width board.arith) board → A.unfit_count board.arith ≡ 0 → (A.unfit_count arith.new ≡ A.unfit_count arith.old) × IfErr result IsCalmFault }
+    ensures work { IsCalm (A.width arith.old) board.inst.value → IsFresh (A.width board.arith) board → A.work_count board.arith ≤ stored_entries board.inst.value + making_work board.inst.value
         → IfOk result (λ closed. A.work_count arith.new + stored_entries board.inst.value ≤ A.work_count arith.old + solve_work board.inst.value closed.moves) }
 {
     let mut board = board;
@@ -98,16 +102,23 @@ fn close<A: Arith>(alloc: Global, board: Board<A>, arith: &mut A) -> Result<Clos
     ensures solves { Solves (A.width arith.old) board.inst.value board.budget result }
     ensures width { A.width arith.new ≡ A.width arith.old }
     ensures unfit { A.unfit_count arith.old ≤ A.unfit_count arith.new }
+    ensures absorbed { IfOk result (λ _. A.unfit_count arith.new ≡ raised (A.unfit_count arith.old) (A.unfit_count board.arith)) }
+    ensures rose { IfErr result (HasRisen (A.unfit_count arith.old) (A.unfit_count arith.new)) }
     ensures calm { IsCalm (A.width arith.old) board.inst.value → A.unfit_count board.arith ≡ 0 → (A.unfit_count arith.new ≡ A.unfit_count arith.old) × IfErr result IsCalmFault }
     ensures work { IfOk result (λ closed. (closed.moves ≡ moves board.log) × (A.work_count arith.new ≤ A.work_count arith.old + (A.work_count board.arith + nonzero_costs board.inst.value))) }
 {
     match board.close(alloc) {
-        Ok((closed, used)) => {
-            arith.absorb(used);
+        Ok((closed, worked)) => {
+            arith.absorb(worked);
             Ok(closed)
         }
-        Err(CloseFault { board, fault }) => {
-            arith.absorb(board.into_arith());
+        Err(
+            CloseFault {
+                board: refused,
+                fault,
+            },
+        ) => {
+            arith.absorb(refused.into_arith());
             Err(fault_of(fault))
         }
     }
@@ -133,9 +144,10 @@ fn run<R: Threads + Sync, A: Arith>(
     ensures fault { IfErr result (IsCause (A.width board.old.arith) board.old.inst.value budget) }
     ensures width { A.width arith.new ≡ A.width arith.old }
     ensures unfit { A.unfit_count arith.old ≤ A.unfit_count arith.new }
-    ensures calm { IsCalm (A.width board.old.arith) board.old.inst.value → IsFresh board.old
+    ensures rose { IfErr result (HasRisen (A.unfit_count board.old.arith) (A.unfit_count board.new.arith)) }
+    ensures calm { IsCalm (A.width board.old.arith) board.old.inst.value → IsFresh (A.width board.old.arith) board.old
         → (A.unfit_count board.new.arith ≡ A.unfit_count board.old.arith) × (A.unfit_count arith.new ≡ A.unfit_count arith.old) × IfErr result IsCalmFault }
-    ensures work { IsCalm (A.width board.old.arith) board.old.inst.value → IsFresh board.old
+    ensures work { IsCalm (A.width board.old.arith) board.old.inst.value → IsFresh (A.width board.old.arith) board.old
         → OnOk result (HasWorked board.old.inst.value board.new.log (length board.new.log + 1) board.new.updates
         (A.work_count board.old.arith + A.work_count arith.old) (A.work_count board.new.arith + A.work_count arith.new)) }
 {
@@ -166,9 +178,12 @@ fn round<R: Threads + Sync, A: Arith>(
     ensures fault { IfErr result (IsCause (A.width board.old.arith) board.old.inst.value board.old.budget) }
     ensures width { A.width arith.new ≡ A.width arith.old }
     ensures unfit { A.unfit_count arith.old ≤ A.unfit_count arith.new }
-    ensures calm { IsCalm (A.width board.old.arith) board.old.inst.value → (IsPlain board.old.ground → ⊥)
+    ensures board_unfit { A.unfit_count board.old.arith ≤ A.unfit_count board.new.arith }
+    ensures rose { IfErr result (HasRisen (A.unfit_count board.old.arith) (A.unfit_count board.new.arith)) }
+    ensures built { IfOk result (λ _. AreBuilt (A.width board.old.arith) board.old → AreBuilt (A.width board.old.arith) board.new) }
+    ensures calm { IsCalm (A.width board.old.arith) board.old.inst.value → AreBuilt (A.width board.old.arith) board.old → (IsPlain board.old.ground → ⊥)
         → (A.unfit_count board.new.arith ≡ A.unfit_count board.old.arith) × (A.unfit_count arith.new ≡ A.unfit_count arith.old) × IfErr result IsCalmFault }
-    ensures work { (before : ℕ) → IsCalm (A.width board.old.arith) board.old.inst.value → (IsPlain board.old.ground → ⊥)
+    ensures work { (before : ℕ) → IsCalm (A.width board.old.arith) board.old.inst.value → AreBuilt (A.width board.old.arith) board.old → (IsPlain board.old.ground → ⊥)
         → HasWorked board.old.inst.value board.old.log (length board.old.log) board.old.updates before (A.work_count board.old.arith + A.work_count arith.old)
         → IfOk result (HasRoundWorked board.old.inst.value board.new before (A.work_count board.new.arith + A.work_count arith.new)) }
 {
@@ -188,11 +203,13 @@ fn ask<R: Threads + Sync, A: Arith>(
     ensures stands { BoardStands (A.width board.old.arith) board.new }
     ensures same { IsSameRun board.old board.new }
     ensures unmoved { IsUnmoved board.old board.new }
-    ensures exact { IfOk result (IsExactTicket board.old.inst.value (state_of board.old)) }
-    ensures number { IfOk result (λ ticket. ticket.number ≡ length board.old.log) }
+    ensures asks { IfOk result (Asks board.old.inst.value board.old.log board.new.ground) }
+    ensures rescued { OnOk result ((mode_of board.new.ground ≡ Mode.Plain) ↔ WantsTable (A.width board.old.arith) board.old.inst.value board.old.ground) }
     ensures fault { IfErr result (IsCause (A.width board.old.arith) board.old.inst.value board.old.budget) }
     ensures board_width { A.width board.new.arith ≡ A.width board.old.arith }
-    ensures given_up { HasGivenUp (A.width board.old.arith) board.old board.new }
+    ensures board_unfit { A.unfit_count board.old.arith ≤ A.unfit_count board.new.arith }
+    ensures rose { IfErr result (HasRisen (A.unfit_count board.old.arith) (A.unfit_count board.new.arith)) }
+    ensures built { AreBuilt (A.width board.old.arith) board.old → AreBuilt (A.width board.old.arith) board.new }
     ensures calm { HasNoCause (A.width board.old.arith) board.old → (A.unfit_count board.new.arith ≡ A.unfit_count board.old.arith) × IfErr result IsCalmFault }
     ensures owed { HasNoCause (A.width board.old.arith) board.old
         → IfOk result (λ _. A.work_count board.new.arith ≤ A.work_count board.old.arith + ground_owed (row_count board.old.inst.value) board.old.ground) }
@@ -220,7 +237,10 @@ fn take<R: Threads + Sync, A: Arith>(
     ensures recorded { IfOk result (Records board.old board.new choice) }
     ensures fault { IfErr result (IsCause (A.width board.old.arith) board.old.inst.value board.old.budget) }
     ensures board_width { A.width board.new.arith ≡ A.width board.old.arith }
-    ensures given_up { choice.unfit ≡ false → HasGivenUp (A.width board.old.arith) board.old board.new }
+    ensures board_unfit { A.unfit_count board.old.arith ≤ A.unfit_count board.new.arith }
+    ensures rose { IfErr result (HasRisen (A.unfit_count board.old.arith) (A.unfit_count board.new.arith)) }
+    ensures given_up { HasGivenUpFor (A.width board.old.arith) board.old board.new choice }
+    ensures built { AreBuilt (A.width board.old.arith) board.old → AreBuilt (A.width board.old.arith) board.new }
     ensures calm { choice.unfit ≡ false → HasNoCause (A.width board.old.arith) board.old → (A.unfit_count board.new.arith ≡ A.unfit_count board.old.arith) × IfErr result IsCalmFault }
     ensures spent { choice.unfit ≡ false → HasNoCause (A.width board.old.arith) board.old → IfOk result (λ recorded. A.work_count board.new.arith ≤ A.work_count board.old.arith
         + (ground_owed (row_count board.old.inst.value) board.old.ground + (move_work (row_count board.old.inst.value) + recorded_work (row_count board.old.inst.value) board.old.updates recorded))) }

@@ -1,5 +1,5 @@
--- How many updates factors have had, and the number at which they were made, along the log.
-use Rattle.std.proofs.Common.{◌≡◌, ℕ, ◌+◌, ◌≤◌, eqb, cond, List, [], ◌∷◌, ◌++◌, length, Some, refl, sym, ◌∙◌, ap, subst, arith, Bool, true, false}
+-- How many updates factors have had, and the number at which they were made, after an entry.
+use Rattle.std.proofs.Common.{◌≡◌, ℕ, ◌+◌, ◌≤◌, eqb, cond, List, Some, refl, sym, ◌∙◌, ap, subst, arith, Bool, true, false}
 use Rattle.lp_model.specs.declared.Entry.{Entry}
 use Rattle.lp_model.specs.declared.Entry.TheVariants.{Flip, Swap, Turn}
 use Rattle.rational.specs.Rational.{ℚ}
@@ -8,14 +8,12 @@ use Rattle.rational.proofs.AnswerLaws.{answer-bind, answer-done}
 use Rattle.rational.proofs.Settling.{settle-answer}
 use Rattle.lp_run.specs.Instance.{Instance, row_count}
 use Rattle.lp_run.specs.Solution.{basis_entry}
-use Rattle.lp_run.specs.Run.{IsRun}
-use Rattle.lp_run.specs.State.{State, after, start_of}
+use Rattle.lp_run.specs.State.{State}
 use Rattle.factor_model.specs.Eta.{apply}
 use Rattle.factor_model.specs.Factoring.{Factored, factored, fresh, singular, whole}
 use Rattle.factor_model.specs.Factors.{Factors, most_updates, updated, with_update}
 use Rattle.factor_model.specs.Update.{update}
-use Rattle.factor_run.specs.Built.{built, built_from, entering_column, followed, made_anew}
-use Rattle.factor_run.proofs.Building.{built-more}
+use Rattle.factor_run.specs.Built.{entering_column, followed, made_anew}
 
 -- factors that are made anew at a number
 fresh_counts : (base : ℕ) (made : Factored) (f : Factors) → fresh base made ≡ Some f → (f.base ≡ base) × (f.updates ≡ 0)
@@ -24,7 +22,7 @@ fresh_counts base (whole ops u) f e =
     (ap (λ (f : Factors). f.base) (sym is), ap (λ (f : Factors). f.updates) (sym is))
 fresh_counts base (singular y) f e = absurd cc
 
-made_counts : (w : ℕ) (inst : Instance) (s : State) (base : ℕ) (f : Factors) → settle w (made_anew inst s base) ≡ Some (Some f) → (f.base ≡ base) × (f.updates ≡ 0)
+pub made_counts : (w : ℕ) (inst : Instance) (s : State) (base : ℕ) (f : Factors) → settle w (made_anew inst s base) ≡ Some (Some f) → (f.base ≡ base) × (f.updates ≡ 0)
 made_counts w inst s base f e =
     fresh_counts base (factored (row_count inst) (basis_entry inst s)).answer f
     (sym (answer-bind (factored (row_count inst) (basis_entry inst s)) (λ made. done (fresh base made)) ∙ answer-done (fresh base (factored (row_count inst) (basis_entry inst s)).answer))
@@ -51,7 +49,7 @@ same_counts w f g e =
     let is : f ≡ g = cc in
     (ap (λ (f : Factors). f.base) (sym is), ap (λ (f : Factors). f.updates) (sym is))
 
-followed_counts : (w : ℕ) (inst : Instance) (t : State) (k : ℕ) (f g : Factors) (e : Entry) → settle w (followed inst t k f e) ≡ Some (Some g) → CountsFollow e k f g
+pub followed_counts : (w : ℕ) (inst : Instance) (t : State) (k : ℕ) (f g : Factors) (e : Entry) → settle w (followed inst t k f e) ≡ Some (Some g) → CountsFollow e k f g
 followed_counts w inst t k f g (Flip q) settled = same_counts w f g settled
 followed_counts w inst t k f g Turn settled = same_counts w f g settled
 followed_counts w inst t k f g (Swap q p end) settled = by (eqb f.updates most_updates) refl
@@ -67,12 +65,6 @@ followed_counts w inst t k f g (Swap q p end) settled = by (eqb f.updates most_u
         let made = updated_counts w f g p spike (sym (ap (λ b. settle w (cond b (made_anew inst t k) (bind (updated f p spike) (λ g. done (Some g))))) e) ∙ settled) in
         (made.0 ∙ sym (ap (λ b. cond b k f.base) e), made.1 ∙ sym (ap (λ b. cond b 0 (f.updates + 1)) e))
 
--- along the log
-pub built_counts : (w : ℕ) (inst : Instance) (log : List Entry) (s : State) (e : Entry) (f g : Factors) → IsRun inst log s → settle w (built inst log) ≡ Some (Some f)
-    → settle w (built inst (log ++ e ∷ [])) ≡ Some (Some g) → CountsFollow e (length log + 1) f g
-built_counts w inst log s e f g run before after_ =
-    followed_counts w inst (after s e) (length log + 1) f g e (sym (built-more w inst log s e f run before) ∙ after_)
-
 -- the number at which they were made is not above the log's
 pub counts_early : (e : Entry) (k : ℕ) (f g : Factors) → CountsFollow e k f g → f.base ≤ k → g.base ≤ k
 counts_early (Flip q) k f g h early = subst (λ n. n ≤ k) (sym h.0) early
@@ -82,19 +74,3 @@ counts_early (Swap q p end) k f g h early = subst (λ n. n ≤ k) (sym h.0) (by 
     by : (b : Bool) → cond b k f.base ≤ k
     by true = omega arith
     by false = early
-
--- at one log there are one factors
-pub one_factors : (w : ℕ) (inst : Instance) (log : List Entry) (f g : Factors) → settle w (built inst log) ≡ Some (Some f) → settle w (built inst log) ≡ Some (Some g) → g ≡ f
-one_factors w inst log f g e e' =
-    let some : Some (Some g) ≡ Some (Some f) = sym e' ∙ e in
-    cc
-
-pub start_counts : (w : ℕ) (inst : Instance) (f : Factors) → settle w (built inst []) ≡ Some (Some f) → (f.updates ≡ 0) × (f.base ≡ 0)
-start_counts w inst f e =
-    let s = start_of inst in
-    let first = made_anew inst s 0 in
-    let whole : first.answer ≡ Some f =
-    sym (answer-bind first (λ f. built_from inst s 0 [] f) ∙ answer-done first.answer) ∙ settle-answer w (built inst []) (Some f) e in
-    let counts = fresh_counts 0 (factored (row_count inst) (basis_entry inst s)).answer f
-    (sym (answer-bind (factored (row_count inst) (basis_entry inst s)) (λ made. done (fresh 0 made)) ∙ answer-done (fresh 0 (factored (row_count inst) (basis_entry inst s)).answer)) ∙ whole) in
-    (counts.1, counts.0)

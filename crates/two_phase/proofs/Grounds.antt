@@ -1,17 +1,21 @@
 -- What a run stands on, seen from its two kinds.
-use Rattle.std.proofs.Common.{◌≡◌, ℕ, List, Result, Ok, Err, IfOk, sym, subst}
+use Rattle.std.proofs.Common.{◌≡◌, ℕ, List, Result, Ok, Err, IfOk, OnErr, OnOk, refl, sym, ◌∙◌, subst}
 use Rattle.lp_model.specs.declared.Entry.{Entry}
 use Rattle.lp_run.specs.Instance.{Instance}
 use Rattle.lp_run.specs.Run.{IsRun}
-use Rattle.lp_run.specs.State.{start_of}
+use Rattle.lp_run.specs.State.{State, start_of}
 use Rattle.plain_table.specs.Plain.{Plain}
 use Rattle.plain_table.proofs.Replays.{leads_one}
 use Rattle.two_phase.specs.declared.ground.Ground.{Ground}
 use Rattle.two_phase.specs.declared.ground.Ground.TheVariants as ground
 use Rattle.two_phase.specs.declared.reached.Reached.{Reached}
 use Rattle.two_phase.specs.declared.reached.Reached.TheVariants as reached
-use Rattle.two_phase.specs.Inner.Grounds.{GroundReaches, GroundStands, ground_state}
+use Rattle.two_phase.specs.declared.standing.Mode.TheVariants as mode
+use Rattle.two_phase.specs.Modes.{mode_of}
+use Rattle.two_phase.specs.Inner.Grounds.{FactorsGo, GroundReaches, GroundStands, HasCause, IsPlain, IsStill, KeepsFactors, WantsTable, ground_state}
+use Rattle.two_phase.specs.declared.iterate.Iterate.{Iterate}
 use Rattle.two_phase.specs.Inner.Plains.{IsFitted, TableReaches, TableStops}
+use Rattle.two_phase.specs.Inner.Reaching.{Reaches}
 
 pub reached_by : (w : ℕ) (inst : Instance) (log : List Entry) (g : Ground) → GroundStands w inst log g → IsRun inst log (ground_state g)
 reached_by w inst log (ground.Factors it) h = h.reached
@@ -28,7 +32,64 @@ table_ground w inst budget log t log' t' fitted (reached.End end) h =
     (h.0, subst (λ log. IsFitted w inst log t') (sym h.0) (subst (IsFitted w inst log) (sym h.1) fitted), subst (λ t. TableStops inst t end) (sym h.1) h.2)
 table_ground w inst budget log t log' t' fitted reached.Spent h = (h.0, subst (λ log. IsFitted w inst log t') (sym h.0) (subst (IsFitted w inst log) (sym h.1) fitted), h.2)
 
+pub factors_ground : (w : ℕ) (inst : Instance) (budget : ℕ) (log : List Entry) (s : State) (log' : List Entry) (it' : Iterate) (r : Reached) → Reaches w inst budget log s log' it' r
+    → GroundReaches w inst budget log s log' (ground.Factors it') r
+factors_ground w inst budget log s log' it' (reached.Entry e) h = h
+factors_ground w inst budget log s log' it' (reached.End end) h = h
+factors_ground w inst budget log s log' it' reached.Spent h = h
+
 -- what holds of an answer may be said otherwise
 pub if_ok : {A E : Type 0} {P Q : A → Type 0} (r : Result A E) → ((a : A) → P a → Q a) → IfOk r P → IfOk r Q
 if_ok (Ok a) f h = f a h
 if_ok (Err e) f h = h
+
+pub on_if : {A E P : Type 0} {Q : A → Type 0} (r : Result A E) → ((a : A) → P → Q a) → OnOk r P → IfOk r Q
+on_if (Ok a) f h = f a h
+on_if (Err e) f h = h
+
+pub on_err : {A E P Q : Type 0} (r : Result A E) → (P → Q) → OnErr r P → OnErr r Q
+on_err (Ok a) f h = h
+on_err (Err e) f h = f h
+
+-- ── the plain table ──
+
+pub mode_plain : (g : Ground) → mode_of g ≡ mode.Plain → IsPlain g
+mode_plain (ground.Factors it) e = absurd cc
+mode_plain (ground.Plain t) e = tt
+
+pub plain_mode : (g : Ground) → IsPlain g → mode_of g ≡ mode.Plain
+plain_mode (ground.Factors it) plain = absurd plain
+plain_mode (ground.Plain t) plain = refl
+
+pub plain_cause : (w : ℕ) (inst : Instance) (log : List Entry) (g : Ground) → IsPlain g → HasCause w inst log g
+plain_cause w inst log (ground.Factors it) plain = absurd plain
+plain_cause w inst log (ground.Plain t) plain = tt
+
+pub plain_wants : (w : ℕ) (inst : Instance) (g : Ground) → IsPlain g → WantsTable w inst g
+plain_wants w inst (ground.Factors it) plain = absurd plain
+plain_wants w inst (ground.Plain t) plain = tt
+
+pub not_plain : (g : Ground) → mode_of g ≡ mode.Factors → IsPlain g → ⊥
+not_plain (ground.Factors it) factors plain = plain
+not_plain (ground.Plain t) factors plain = absurd (cc factors)
+
+-- the plain table keeps no factors
+pub plain_keeps : (g g' : Ground) → IsPlain g' → KeepsFactors g g'
+plain_keeps g (ground.Plain t') plain = tt
+plain_keeps g (ground.Factors it') plain = absurd plain
+
+pub plain_goes : (w : ℕ) (inst : Instance) (k : ℕ) (g g' : Ground) (r : Reached) → IsPlain g' → FactorsGo w inst k g g' r
+plain_goes w inst k g (ground.Plain t') r plain = tt
+plain_goes w inst k g (ground.Factors it') r plain = absurd plain
+
+-- ── what is still ──
+
+pub plain_along : (g g' : Ground) → mode_of g' ≡ mode_of g → IsPlain g → IsPlain g'
+plain_along g g' same plain = mode_plain g' (same ∙ plain_mode g plain)
+
+pub still_here : (w : ℕ) (inst : Instance) (log : List Entry) (g g' : Ground) → GroundStands w inst log g → g' ≡ g → IsStill w inst log g g'
+still_here w inst log g g' stands same = subst (IsStill w inst log g) (sym same) (record { stands = stands; state = refl; mode = refl; factors = itself g })
+  where
+    itself : (g : Ground) → KeepsFactors g g
+    itself (ground.Factors it) = refl
+    itself (ground.Plain t) = tt

@@ -1,5 +1,5 @@
 -- What an iterate keeps, and why it cannot go on.
-use Rattle.std.proofs.Common.{◌≡◌, ℕ, inl, inr, List, length, true, Some, None, sym, ◌∙◌, ap, subst}
+use Rattle.std.proofs.Common.{◌≡◌, ℕ, ◌≤◌, inl, inr, List, length, true, Some, None, sym, ◌∙◌, ap, subst}
 use Rattle.lp_model.specs.declared.Entry.{Entry}
 use Rattle.rational.specs.Rational.{ℚ}
 use Rattle.rational.specs.Worked.{settle}
@@ -11,7 +11,7 @@ use Rattle.lp_run.specs.Step.{Enters, direction}
 use Rattle.lp_run.proofs.Regularity.{table_solves}
 use Rattle.lp_run.proofs.Runs.{reached_has_table}
 use Rattle.bland_ratio.specs.Leave.{IsBasisOf, ratio_place}
-use Rattle.factor_model.specs.Factors.{AreFactors, ftran}
+use Rattle.factor_model.specs.Factors.{AreFactors, Factors, ftran, most_updates}
 use Rattle.factor_model.specs.Upper.{Solves, Triangle}
 use Rattle.factor_run.specs.Built.{entering_column}
 use Rattle.factor_run.specs.Causes.{Cause, column, cost}
@@ -33,7 +33,7 @@ same_iterate w inst log it it' kept prices sized h = record {
   reached = subst (λ s. Leads inst (start_of inst) log s) (sym kept.state) h.reached;
   factors = subst (λ s. AreFactors (row_count inst) it'.factors (basis_entry inst s)) (sym kept.state)
       (subst (λ f. AreFactors (row_count inst) f (basis_entry inst it.state)) (sym kept.factors) h.factors);
-  built = h.built ∙ ap (λ f. Some (Some f)) (sym kept.factors);
+  few = subst (λ (f : Factors). f.updates ≤ most_updates) (sym kept.factors) h.few;
   values = subst (λ s. Values inst s it'.values.items) (sym kept.state) (subst (Values inst it.state) (sym kept.values) h.values);
   prices = λ is. subst (λ s. Prices inst s it'.prices.items) (sym kept.state) (prices is);
   sized = sized;

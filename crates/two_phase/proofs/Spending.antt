@@ -8,10 +8,10 @@ use Rattle.two_phase.specs.declared.ground.Ground.TheVariants as ground
 use Rattle.two_phase.specs.declared.reached.Reached.{Reached}
 use Rattle.two_phase.specs.declared.reached.Reached.TheVariants as reached
 use Rattle.two_phase.specs.declared.standing.Mode.TheVariants as mode
-use Rattle.two_phase.specs.Board.{AreCounts, OnFactors}
+use Rattle.two_phase.specs.Board.{AreCounts}
 use Rattle.two_phase.specs.Modes.{mode_of}
 use Rattle.two_phase.specs.Standing.{answer_of}
-use Rattle.two_phase.specs.Inner.Grounds.{HasCause, IsPlain}
+use Rattle.two_phase.specs.Inner.Grounds.{HasCause, IsPlain, OnFactors}
 use Rattle.two_phase.specs.Inner.Works.{ground_updates, reached_work}
 use Rattle.two_phase.specs.Works.{recorded_work}
 

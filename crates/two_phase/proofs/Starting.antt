@@ -1,5 +1,5 @@
 -- An iterate at the start, and the column that a choice names.
-use Rattle.std.proofs.Common.{◌≡◌, ℕ, ◌<◌, List, [], Option, true, false, MatchOption, length, refl, sym, ◌∙◌, ap, subst}
+use Rattle.std.proofs.Common.{◌≡◌, ℕ, ◌<◌, List, [], Option, true, false, MatchOption, length, refl, sym, ◌∙◌, ap, subst, arith}
 use Rattle.lp_model.specs.declared.Entry.{Entry}
 use Rattle.rational.specs.Rational.{ℚ}
 use Rattle.rational.specs.Sum.{at}
@@ -14,9 +14,9 @@ use Rattle.lp_run.proofs.Regularity.{one_prices}
 use Rattle.lp_run.proofs.Runs.{reached_regular}
 use Rattle.lp_run.proofs.Start.{start_has_table}
 use Rattle.factor_model.specs.Factors.{AreFactors}
-use Rattle.factor_run.proofs.Building.{built-start}
 use Rattle.plain_table.specs.Inner.Starts.{basic_start}
 use Rattle.plain_table.proofs.StartSolves.{values_solve}
+use Rattle.two_phase.proofs.Counting.{made_counts}
 use Rattle.two_phase.specs.declared.iterate.Iterate.{Iterate}
 use Rattle.two_phase.specs.Inner.Factoring.{FactorsFrom, IsBasis}
 use Rattle.two_phase.specs.Inner.Iterates.{IsIterate, IsSized}
@@ -35,7 +35,7 @@ pub started_iterate : (w : ℕ) (inst : Instance) (it : Iterate) → it.state �
 started_iterate w inst it is factors values unpriced sized = record {
   reached = subst (IsRun inst []) (sym is) refl;
   factors = subst (λ s. AreFactors (row_count inst) it.factors (basis_entry inst s)) (sym is) factors.factors;
-  built = built-start w inst it.factors factors.made;
+  few = omega (arith, (made_counts w inst (start_of inst) 0 it.factors factors.made).1);
   values = subst (λ s. Values inst s it.values.items) (sym is) values;
   prices = λ is. absurd (apart (sym is ∙ unpriced));
   sized = sized;

@@ -8,8 +8,8 @@ use Rattle.lp_model.specs.declared.Entry.{Entry}
 use Rattle.lp_model.specs.declared.Entry.TheVariants.{Flip, Swap, Turn}
 use Rattle.lp_model.specs.declared.Place.{Place}
 use Rattle.rational.specs.Rational.{ℚ}
-use Rattle.rational.specs.Worked.{settle}
-use Rattle.rational.proofs.Settling.{settle-done}
+use Rattle.rational.specs.Worked.{done, settle}
+use Rattle.rational.proofs.Settling.{settle-answer, settle-done}
 use Rattle.lp_run.specs.Instance.{Instance, IsWellFormed, column_count, row_count}
 use Rattle.lp_model.specs.declared.Kind.TheVariants as kind
 use Rattle.lp_model.specs.declared.Phase.TheVariants.{One}
@@ -28,10 +28,10 @@ use Rattle.lp_run.proofs.Regularity.{table_solves}
 use Rattle.lp_run.proofs.Runs.{leads_on, reached_has_table}
 use Rattle.bland_laws.proofs.Always.{instance_holds}
 use Rattle.bland_ratio.specs.declared.ratio_test.Leave.TheVariants as leave
-use Rattle.factor_model.specs.Factors.{AreFactors}
-use Rattle.factor_run.specs.Built.{exchanged, followed}
+use Rattle.factor_model.specs.Factors.{AreFactors, Factors, most_updates}
+use Rattle.factor_run.specs.Built.{StandFor, exchanged, followed}
 use Rattle.factor_run.specs.Causes.{Cause, factors as unfollowed}
-use Rattle.factor_run.proofs.Building.{built-more}
+use Rattle.factor_run.proofs.BuiltLaws.{followed_if-stands}
 use Rattle.factor_run.proofs.Causing.{flip_cause, swap_cause}
 use Rattle.plain_table.specs.Inner.Values.{values_listing}
 use Rattle.plain_table.proofs.Swaps.{flipped_lists, swapped_lists}
@@ -40,7 +40,8 @@ use Rattle.two_phase.specs.declared.iterate.Iterate.{Iterate}
 use Rattle.two_phase.specs.Inner.Factoring.{IsBasis}
 use Rattle.two_phase.specs.Inner.Iterates.{AreWorked, HasFollowed, IsEntered, IsIterate, IsSized, IsSpared, IsTaken}
 use Rattle.two_phase.specs.declared.reached.Reached.TheVariants as reached
-use Rattle.two_phase.specs.Inner.Reaching.{Reaches}
+use Rattle.two_phase.specs.declared.reached.Reached.{Reached}
+use Rattle.two_phase.specs.Inner.Reaching.{GoesWith, Reaches}
 use Rattle.two_phase.proofs.Moving.{flip_next, flip_values, swap_element, swap_next, swap_position, swap_values, turn_values}
 
 pub statused : (w : ℕ) (inst : Instance) → IsWellFormed inst → (log : List Entry) (it : Iterate) → IsIterate w inst log it → (q : ℕ) → q < column_count inst → q < length it.state.statuses
@@ -54,7 +55,7 @@ pub taken_iterate : (w : ℕ) (inst : Instance) (log : List Entry) (it mid new :
 taken_iterate w inst log it mid new e h next same sized each values factors follows taken = record {
   reached = subst (IsRun inst (log ++ e ∷ [])) (sym there) (leads_on inst (start_of inst) it.state log e h.reached next);
   factors = subst (λ f. AreFactors (row_count inst) f (basis_entry inst new.state)) (sym taken.factors) (subst (λ s. AreFactors (row_count inst) mid.factors (basis_entry inst s)) (sym there) factors);
-  built = built-more w inst log it.state e it.factors h.reached h.built ∙ follows ∙ ap (λ f. Some (Some f)) (sym taken.factors);
+  few = subst (λ (f : Factors). f.updates ≤ most_updates) (sym taken.factors) stand.1;
   values = subst (λ s. Values inst s new.values.items) (sym there) (subst (λ v. Values inst (after it.state e) v.items) (sym taken.values) values);
   prices = λ is. absurd (apart (sym is ∙ taken.unpriced));
   sized = record {
@@ -68,6 +69,11 @@ taken_iterate w inst log it mid new e h next same sized each values factors foll
   where
     there : new.state ≡ after it.state e
     there = taken.state ∙ ap (λ s. after s e) same
+
+    stand : StandFor inst (after it.state e) (Some mid.factors)
+    stand =
+        subst (StandFor inst (after it.state e)) (settle-answer w (followed inst (after it.state e) (length log + 1) it.factors e) (Some mid.factors) follows)
+        (followed_if-stands inst it.state (reached_has_table inst log it.state h.reached) e next (length log + 1) (Some it.factors) (h.factors, h.few))
 
     apart : true ≡ false → ⊥
     apart e = cc e
@@ -130,7 +136,7 @@ module _ (w : ℕ) (inst : Instance) (log : List Entry) (it mid : Iterate) (kept
       subst (IsIterate w inst log) (sym (spared_is it mid kept)) (record {
         reached = h.reached;
         factors = h.factors;
-        built = h.built;
+        few = h.few;
         values = h.values;
         prices = h.prices;
         sized = record { prices = h.sized.prices; alpha = h.sized.alpha; spike = h.sized.spike; spare = kept.spare ∙ h.sized.spare; few = h.sized.few };
@@ -224,7 +230,7 @@ turned_iterate : (w : ℕ) (inst : Instance) → IsWellFormed inst → (log : Li
 turned_iterate w inst well_formed log it h next t is = record {
   reached = subst (IsRun inst (log ++ Turn ∷ [])) (sym is) (leads_on inst (start_of inst) it.state log Turn h.reached next);
   factors = subst (λ s. AreFactors (row_count inst) it.factors (basis_entry inst s)) (sym is) h.factors;
-  built = built-more w inst log it.state Turn it.factors h.reached h.built ∙ settle-done w (Some it.factors);
+  few = h.few;
   values = subst (λ s. Values inst s it.values.items) (sym is) (turn_values inst well_formed log it.state h.reached it.values.items h.values next);
   prices = λ is. absurd (apart is);
   sized = record { prices = h.sized.prices; alpha = h.sized.alpha; spike = h.sized.spike; spare = h.sized.spare; few = h.sized.few };
@@ -259,6 +265,15 @@ entry_within log log' budget e is within left = by (is_move e) refl
 
 -- ── what a step comes to ──
 
+-- but for a swap the factors go with an entry where they stay
+pub stay_followed : (w : ℕ) (f g : Factors) → g ≡ f → settle w (done (Some f)) ≡ Some (Some g)
+stay_followed w f g same = settle-done w (Some f) ∙ ap (λ f. Some (Some f)) (sym same)
+
+module _ (w : ℕ) (inst : Instance) (k : ℕ) (s s' : State) (f f' g : Factors) (there : s' ≡ s) (same : f' ≡ f) where
+  -- factors that go with a step go with it where state and factors are called otherwise
+  pub goes_there : (r : Reached) → GoesWith w inst k s' f' g r → GoesWith w inst k s f g r
+  goes_there r h = subst (λ s. GoesWith w inst k s f g r) there (subst (λ f. GoesWith w inst k s' f g r) same h)
+
 module _ (w : ℕ) (inst : Instance) (budget : ℕ) (log : List Entry) (s : State) where
   pub reaches_entry : (e : Entry) (log' : List Entry) (new : Iterate) → IsNext inst s e → log' ≡ log ++ e ∷ [] → IsIterate w inst log' new → moves log ≤ budget
       → (is_move e ≡ true → moves log ≢ budget)
@@ -267,4 +282,4 @@ module _ (w : ℕ) (inst : Instance) (budget : ℕ) (log : List Entry) (s : Stat
 
   pub reaches_spent : (e : Entry) (it new : Iterate) → IsRun inst log s → IsNext inst s e → is_move e ≡ true → moves log ≡ budget → IsIterate w inst log new
       → Reaches w inst budget log s log new reached.Spent
-  reaches_spent e it new run next is count stands = (refl, stands, (log, s, e, run, next, is, count))
+  reaches_spent e it new run next is count stands = (refl, stands, (log, e, run, refl, count, next, is))

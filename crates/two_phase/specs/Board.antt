@@ -1,5 +1,5 @@
 -- The board of a run: what stands on it between any two calls, and what its calls answer.
-use Rattle.std.specs.Prelude.{◌≡◌, ◌≢◌, ℕ, ◌+◌, ◌<◌, ◌≤◌, ◌==◌, List, [], ◌∷◌, ◌++◌, length, Some, true, false, if◌then◌else◌}
+use Rattle.std.specs.Prelude.{◌≡◌, ◌≢◌, ℕ, ◌+◌, ◌<◌, ◌≤◌, ◌==◌, ◌⊎◌, List, [], ◌∷◌, ◌++◌, length, Some, true, false, if◌then◌else◌}
 use Rattle.lp_model.specs.declared.Entry.{Entry}
 use Rattle.lp_model.specs.declared.Entry.TheVariants.{Flip, Swap, Turn}
 use Rattle.lp_model.specs.declared.Place.{Place}
@@ -11,7 +11,7 @@ use Rattle.rational.specs.Worked.{settle}
 use Rattle.exact_frac.specs.Count.{raised}
 use Rattle.lp_run.specs.Instance.{Instance, IsWellFormed, row_count}
 use Rattle.lp_run.specs.Listing.{IsFirstTotal, IsFirstUnfit, StartFits}
-use Rattle.lp_run.specs.Run.{IsRun, IsSpent}
+use Rattle.lp_run.specs.Run.{IsRun}
 use Rattle.lp_run.specs.Solution.{Values, basis_entry}
 use Rattle.lp_run.specs.State.{State, start_of}
 use Rattle.lp_run.specs.Step.{EndsFree, EndsInfeasible, EndsOptimal, IsNext}
@@ -21,7 +21,6 @@ use Rattle.factor_model.specs.Factors.{AreFactors, Factors, most_updates}
 use Rattle.factor_run.specs.Built.{built}
 use Rattle.two_phase.specs.declared.board.Board.{Board}
 use Rattle.two_phase.specs.declared.ground.Ground.{Ground}
-use Rattle.two_phase.specs.declared.ground.Ground.TheVariants as ground
 use Rattle.two_phase.specs.declared.standing.BoardFault.{BoardFault}
 use Rattle.two_phase.specs.declared.standing.BoardFault.TheVariants as fault
 use Rattle.two_phase.specs.declared.standing.Course.{Course}
@@ -31,38 +30,30 @@ use Rattle.two_phase.specs.declared.standing.Recorded.{Recorded}
 use Rattle.two_phase.specs.declared.standing.Recorded.TheVariants as recorded
 use Rattle.two_phase.specs.declared.standing.Standing.{Standing}
 use Rattle.two_phase.specs.declared.standing.Standing.TheVariants as standing
-use Rattle.two_phase.specs.Inner.Grounds.{GroundStands, GroundStops, HasCause, ground_state}
+use Rattle.two_phase.specs.Spent.{IsSpentAt}
+use Rattle.two_phase.specs.Inner.Grounds.{GroundStands, GroundStops, HasCause, KeepsFactors, OnFactors, WantsTable, ground_state}
 use Rattle.two_phase.specs.Modes.{mode_of}
 use Rattle.two_phase.specs.Standing.{standing_of}
 
 -- ── what is seen of a board ──
 
--- what holds of the factors, where the board works with factors
-abbrev pub OnFactors : Ground → (State → Factors → Type 0) → Type 0
-OnFactors (ground.Factors it) P = P it.state it.factors
-OnFactors (ground.Plain t) P = Unit {0}
-
--- the run has come so far at the state that is stood on
-abbrev pub HasCome : Instance → ℕ → Ground → Course → Type 0
-HasCome inst budget g course.Running = Unit {0}
-HasCome inst budget g (course.Ended end) = GroundStops inst g end
-HasCome inst budget g course.Spent = IsSpent inst budget
+-- the run has come so far at the state of number k that is stood on
+abbrev pub HasCome : Instance → ℕ → ℕ → Ground → Course → Type 0
+HasCome inst budget k g course.Running = Unit {0}
+HasCome inst budget k g (course.Ended end) = GroundStops inst g end
+HasCome inst budget k g course.Spent = IsSpentAt inst budget k (ground_state g)
 
 -- these are the updates that the factors have had, and the number at which they were made
 abbrev pub AreCounts : ℕ → ℕ → State → Factors → Type 0
 AreCounts updates epoch s f = (f.updates ≡ updates) × (f.base ≡ epoch)
 
--- the standing is that of the state s: at an end it has the end's equations
-abbrev pub IsStandingOf : Instance → ℕ → State → Standing → Type 0
-IsStandingOf inst budget s standing.Running = Unit {0}
-IsStandingOf inst budget s standing.Optimal = (y β : List ℚ) × EndsOptimal inst s y β
-IsStandingOf inst budget s standing.Infeasible = (y β : List ℚ) × EndsInfeasible inst s y β
-IsStandingOf inst budget s standing.Unbounded = (y β α : List ℚ) × (q : ℕ) × EndsFree inst s y β α q
-IsStandingOf inst budget s standing.Spent = IsSpent inst budget
-
--- where there are factors before and after, they are the same
-abbrev pub KeepsFactors : Ground → Ground → Type 0
-KeepsFactors old new = OnFactors new (λ s f. OnFactors old (λ before g. f ≡ g))
+-- the standing is that of the state s of number k: at an end it has the end's equations
+abbrev pub IsStandingOf : Instance → ℕ → ℕ → State → Standing → Type 0
+IsStandingOf inst budget k s standing.Running = Unit {0}
+IsStandingOf inst budget k s standing.Optimal = (y β : List ℚ) × EndsOptimal inst s y β
+IsStandingOf inst budget k s standing.Infeasible = (y β : List ℚ) × EndsInfeasible inst s y β
+IsStandingOf inst budget k s standing.Unbounded = (y β α : List ℚ) × (q : ℕ) × EndsFree inst s y β α q
+IsStandingOf inst budget k s standing.Spent = IsSpentAt inst budget k s
 
 abbrev pub state_of : {A : Type 0} → Board A → State
 state_of b = ground_state b.ground
@@ -81,7 +72,7 @@ pub record BoardStands {A : Type 0} (w : ℕ) (b : Board A) : Type 0 where
   -- the log leads to the state that is stood on, within the budget
   pub stands : GroundStands w b.inst.value b.log b.ground
   pub within : moves b.log ≤ b.budget
-  pub come : HasCome b.inst.value b.budget b.ground b.course
+  pub come : HasCome b.inst.value b.budget (length b.log) b.ground b.course
   pub counts : OnFactors b.ground (AreCounts b.updates b.epoch)
   pub early : b.epoch ≤ length b.log
 
@@ -118,6 +109,10 @@ pub record IsUnmoved {A : Type 0} (old new : Board A) : Type 0 where
 abbrev pub HasGivenUp : {A : Type 0} → ℕ → Board A → Board A → Type 0
 HasGivenUp w old new = mode_of new.ground ≡ mode.Plain → HasCause w old.inst.value old.log old.ground
 
+-- they are given up for such a cause, or for an unfit choice of the board's own number
+abbrev pub HasGivenUpFor : {A : Type 0} → ℕ → Board A → Board A → Choice → Type 0
+HasGivenUpFor w old new choice = mode_of new.ground ≡ mode.Plain → HasCause w old.inst.value old.log old.ground ⊎ ((choice.unfit ≡ true) × (choice.number ≡ length old.log))
+
 -- the choice is exact for a state of the run, of a number not above the board's
 abbrev pub IsChoiceFor : {A : Type 0} → ℕ → Board A → Choice → Type 0
 IsChoiceFor w b choice = (front later : List Entry) × (s : State) × (b.log ≡ front ++ later) × (length front ≡ choice.number) × IsRun b.inst.value front s × IsExactChoice w b.inst.value s choice
@@ -135,11 +130,11 @@ FollowsEntry old new (Flip q) = KeepsCounts old new
 FollowsEntry old new (Swap q p end) = (mode_of new.ground ≡ mode.Factors → FollowsSwap old new) × (mode_of new.ground ≡ mode.Plain → KeepsCounts old new)
 FollowsEntry old new Turn = KeepsCounts old new
 
--- what a record comes to
+-- what a record comes to; over factors an unfit choice is a rescue
 abbrev pub Records : {A : Type 0} → Board A → Board A → Choice → Recorded → Type 0
-Records old new choice (recorded.Entry e) = IsNext old.inst.value (state_of old) e × (new.log ≡ old.log ++ e ∷ []) × (standing_on new ≡ standing.Running) × FollowsEntry old new e
+Records old new choice (recorded.Entry e) = IsNext old.inst.value (state_of old) e × (new.log ≡ old.log ++ e ∷ []) × (standing_on new ≡ standing.Running) × FollowsEntry old new e × (choice.unfit ≡ true → mode_of old.ground ≡ mode.Plain)
 Records old new choice recorded.Rescued = (choice.unfit ≡ true) × (mode_of old.ground ≡ mode.Factors) × (mode_of new.ground ≡ mode.Plain) × IsUnmoved old new
-Records old new choice (recorded.Ended s) = (s ≢ standing.Running) × (standing_on new ≡ s) × (new.log ≡ old.log) × KeepsCounts old new
+Records old new choice (recorded.Ended s) = (s ≢ standing.Running) × (standing_on new ≡ s) × (new.log ≡ old.log) × KeepsCounts old new × (choice.unfit ≡ true → mode_of old.ground ≡ mode.Plain)
 
 -- the run has ended, within the budget
 abbrev pub HasEnded : {A : Type 0} → Board A → Type 0
@@ -164,7 +159,7 @@ IsStartCause w inst before after (fault.Ended s) = ⊥
 
 abbrev pub IsTicketCause : {A : Type 0} → ℕ → Board A → ℕ → ℕ → BoardFault → Type 0
 IsTicketCause w b before after fault.Memory = Unit {0}
-IsTicketCause w b before after (fault.Overflow here) = IsFirstOf w b before after here × HasCause w b.inst.value b.log b.ground
+IsTicketCause w b before after (fault.Overflow here) = IsFirstOf w b before after here × WantsTable w b.inst.value b.ground
 IsTicketCause w b before after (fault.Stale n) = ⊥
 IsTicketCause w b before after (fault.Ended s) = (s ≡ standing_on b) × (s ≢ standing.Running)
 

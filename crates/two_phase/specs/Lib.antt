@@ -1,6 +1,7 @@
 pub mod Board
 pub mod Inner
 pub mod Modes
+pub mod Spent
 pub mod Standing
 pub mod Tally
 pub mod Works

@@ -8,6 +8,7 @@ use Rattle.two_phase.specs.declared.board.Board.{Board}
 use Rattle.two_phase.specs.declared.standing.Recorded.{Recorded}
 use Rattle.two_phase.specs.declared.standing.Recorded.TheVariants as recorded
 use Rattle.two_phase.specs.declared.standing.Mode.TheVariants as mode
+use Rattle.two_phase.specs.Board.{AreBuilt}
 use Rattle.two_phase.specs.Inner.Grounds.{IsPlain}
 use Rattle.two_phase.specs.Modes.{mode_of}
 
@@ -21,9 +22,10 @@ pub record IsTally (inst : Instance) (log : List Entry) (rounds updates spent : 
 abbrev pub HasWorked : Instance → List Entry → ℕ → ℕ → ℕ → ℕ → Type 0
 HasWorked inst log rounds updates before now = (spent : ℕ) × IsTally inst log rounds updates spent × (now ≤ before + spent)
 
--- the board is at the start of its run, with factors
-pub record IsFresh {A : Type 0} (b : Board A) : Type 0 where
+-- the board is at the start of its run, with factors that are built along it
+pub record IsFresh {A : Type 0} (w : ℕ) (b : Board A) : Type 0 where
   pub factors : mode_of b.ground ≡ mode.Factors
+  pub built : AreBuilt w b
   pub log : b.log ≡ []
   pub updates : b.updates ≡ 0
 

@@ -1,16 +1,15 @@
 //! The start of a run, and what its grounds ask of a round of pricing.
-ghost use Rattle.std.specs.Prelude.{◌≡◌, ◌+◌, ◌≤◌, ℕ, List, [], None, length, IfErr, IfOk, IfSome, OnErr, OnOk};
+ghost use Rattle.std.specs.Prelude.{◌≡◌, ◌+◌, ◌≤◌, ◌↔◌, [], IfErr, IfNone, IfOk, IfSome, OnErr, OnOk};
 ghost use Rattle.lp_run.specs.Instance.{IsWellFormed, row_count};
 ghost use Rattle.lp_run.specs.Listing.{StartFits};
-ghost use Rattle.lp_model.specs.declared.Entry.{Entry as LogEntry};
 ghost use Rattle.bland_ratio.specs.Entries.{stored_entries};
-ghost use Rattle.bland_ratio.specs.Pricing.{IsExactTicket};
 ghost use Rattle.factor_run.specs.Bound.{making_work};
 ghost use Rattle.two_phase.specs.Board.{StartsUnfit};
 ghost use Rattle.two_phase.specs.Inner.Plains.{HasRisen, IsRunFault};
 
 use crate::ground::Ground;
 use crate::iterate::Iterate;
+use crate::plain::replay;
 use crate::refusal::Refusal;
 use crate::tickets::{costs_ticket, prices_ticket};
 use bland_ratio::Ticket;
@@ -23,9 +22,9 @@ use std::alloc::Global;
 use std::thread::Threads;
 
 impl Ground {
-    ghost use Rattle.two_phase.specs.Inner.Grounds.{GivesUp, GroundStands, HasCause, IsPlain, ground_state};
+    ghost use Rattle.two_phase.specs.Inner.Grounds.{Asks, BeginsBuilt, GroundStands, IsPlain, IsStill, KeepsFactors, WantsTable};
     ghost use Rattle.two_phase.specs.Works.{ground_owed};
-    ghost use Rattle.two_phase.specs.Modes.{IsPaidBy, mode_of};
+    ghost use Rattle.two_phase.specs.Modes.{mode_of};
     ghost use Rattle.two_phase.specs.Inner.Plains.{OverflowsFor};
     ghost use Rattle.two_phase.specs.declared.standing.Mode.{Mode};
 
@@ -38,18 +37,13 @@ impl Ground {
         arith: &mut A,
     ) -> Result<Option<Ticket>, Memory>
         requires { GroundStands (A.width arith.old) inst.now log.now self.old }
-        ensures exact { IfOk result (λ asked. IfSome asked (IsExactTicket inst.now (ground_state self.new))) }
-        ensures number { IfOk result (λ asked. IfSome asked (λ ticket. ticket.number ≡ length log.now)) }
-        ensures paid { IfOk result (λ asked. IfSome asked (λ ticket. IsPaidBy (mode_of self.new) ticket.pay)) }
-        ensures stands { GroundStands (A.width arith.old) inst.now log.now self.new }
-        ensures given_up { GivesUp (A.width arith.old) inst.now log.now self.old self.new }
-        ensures plain_stays { IsPlain self.old → IsPlain self.new }
-        ensures left { IfOk result (λ asked. asked ≡ None → HasCause (A.width arith.old) inst.now log.now self.old) }
-        ensures state { ground_state self.new ≡ ground_state self.old }
+        ensures asks { IfOk result (λ asked. IfSome asked (Asks inst.now log.now self.new)) }
+        ensures still { IsStill (A.width arith.old) inst.now log.now self.old self.new }
+        ensures fitting { IfOk result (λ asked. IfSome asked (λ _. WantsTable (A.width arith.old) inst.now self.old → ⊥)) }
+        ensures left { IfOk result (λ asked. IfNone asked (WantsTable (A.width arith.old) inst.now self.old)) }
         ensures width { A.width arith.new ≡ A.width arith.old }
         ensures unfit { A.unfit_count arith.old ≤ A.unfit_count arith.new }
-        ensures fits { IfOk result (λ asked. IfSome asked (λ _. A.unfit_count arith.new ≡ A.unfit_count arith.old)) }
-        ensures fitted { OnErr result (A.unfit_count arith.new ≡ A.unfit_count arith.old) }
+        ensures fits { IfOk result (λ asked. IfSome asked (λ _. A.unfit_count arith.new ≡ A.unfit_count arith.old)) × OnErr result (A.unfit_count arith.new ≡ A.unfit_count arith.old) }
         ensures owed { IfOk result (λ asked. IfSome asked (λ _. A.work_count arith.new ≤ A.work_count arith.old + ground_owed (row_count inst.now) self.old)) }
         ensures unowed { IfOk result (λ asked. IfSome asked (λ _. ground_owed (row_count inst.now) self.new ≡ 0)) }
     {
@@ -65,26 +59,45 @@ impl Ground {
         }
     }
 
-    // The ticket of a state over the plain table.
-    fn ask_table(&self, alloc: Global, inst: &Instance) -> Result<Ticket, Memory>
-        requires plain { IsPlain self.now }
-        requires stands { (w : ℕ) × (log : List LogEntry) × GroundStands w inst.now log self.now }
-        ensures exact { IfOk result (IsExactTicket inst.now (ground_state self.now)) }
-        ensures paid { IfOk result (λ ticket. IsPaidBy (mode_of self.now) ticket.pay) }
-        ensures number { (w : ℕ) (log : List LogEntry) → GroundStands w inst.now log self.now → IfOk result (λ ticket. ticket.number ≡ length log) }
+    // The ticket of a state over the plain table. Where there are factors it is made along the log, and comes in their place
+    // once there is a ticket: after a refusal nothing has changed.
+    fn ask_table<R: Threads + Sync, A: Arith>(
+        &mut self,
+        rt: &R,
+        alloc: Global,
+        inst: &Instance,
+        log: &Log,
+        arith: &mut A,
+    ) -> Result<Ticket, TableFault>
+        requires well_formed { IsWellFormed inst.now }
+        requires fits { StartFits (A.width arith.old) inst.now }
+        requires stands { GroundStands (A.width arith.old) inst.now log.now self.old }
+        ensures asks { IfOk result (Asks inst.now log.now self.new) }
+        ensures plain { OnOk result (IsPlain self.new) }
+        ensures stands { OnOk result (GroundStands (A.width arith.old) inst.now log.now self.new) }
+        ensures kept { OnErr result (self.new ≡ self.old) }
+        ensures fault { IfErr result (IsRunFault (A.width arith.old) inst.now log.now) }
+        ensures rose { IfErr result (HasRisen (A.unfit_count arith.old) (A.unfit_count arith.new)) }
+        ensures width { A.width arith.new ≡ A.width arith.old }
+        ensures unfit { A.unfit_count arith.old ≤ A.unfit_count arith.new }
     {
         match self {
-            Ground::Plain(table) => costs_ticket(alloc, inst, table),
-            Ground::Factors(_) => unreachable!(),
+            Ground::Plain(table) => Ok(costs_ticket(alloc, inst, table)?),
+            Ground::Factors(_) => {
+                let table = replay(rt, alloc, inst, log, arith)?;
+                let ticket = costs_ticket(alloc, inst, &table)?;
+                *self = Ground::Plain(table);
+                Ok(ticket)
+            }
         }
     }
 
-    /// The ticket of the state that the log reaches: with its prices, or where the factors are given up with its
-    /// reduced costs.
+    /// The ticket of the state that the log reaches: with its prices, or, where those do not fit, with its reduced costs.
     ///
     /// # Errors
     ///
-    /// `Overflow` with the place of the first value of the run that does not fit the width, `Memory` for want of memory.
+    /// `Overflow` with the place of the first value of the run that does not fit the width, `Memory` for want of memory. It
+    /// is stood on at the same state then, by the same factors or the same table.
     pub fn ticket<R: Threads + Sync, A: Arith>(
         &mut self,
         rt: &R,
@@ -96,28 +109,25 @@ impl Ground {
         requires well_formed { IsWellFormed inst.now }
         requires fits { StartFits (A.width arith.old) inst.now }
         requires stands { GroundStands (A.width arith.old) inst.now log.now self.old }
-        ensures exact { IfOk result (IsExactTicket inst.now (ground_state self.new)) }
-        ensures number { IfOk result (λ ticket. ticket.number ≡ length log.now) }
-        ensures paid { IfOk result (λ ticket. IsPaidBy (mode_of self.new) ticket.pay) }
-        ensures stands { GroundStands (A.width arith.old) inst.now log.now self.new }
-        ensures given_up { GivesUp (A.width arith.old) inst.now log.now self.old self.new }
-        ensures plain_stays { IsPlain self.old → IsPlain self.new }
-        ensures state { ground_state self.new ≡ ground_state self.old }
+        ensures asks { IfOk result (Asks inst.now log.now self.new) }
+        ensures stands { OnOk result (GroundStands (A.width arith.old) inst.now log.now self.new) }
+        ensures keeps { OnOk result (KeepsFactors self.old self.new) }
+        ensures rescued { OnOk result (IsPlain self.new ↔ WantsTable (A.width arith.old) inst.now self.old) }
+        ensures still { OnErr result (IsStill (A.width arith.old) inst.now log.now self.old self.new) }
         ensures fault { IfErr result (IsRunFault (A.width arith.old) inst.now log.now) }
+        ensures cause { IfErr result (OverflowsFor (WantsTable (A.width arith.old) inst.now self.old)) }
+        ensures rose { IfErr result (HasRisen (A.unfit_count arith.old) (A.unfit_count arith.new)) }
         ensures width { A.width arith.new ≡ A.width arith.old }
         ensures unfit { A.unfit_count arith.old ≤ A.unfit_count arith.new }
-        ensures fits { (HasCause (A.width arith.old) inst.now log.now self.old → ⊥) → A.unfit_count arith.new ≡ A.unfit_count arith.old }
-        ensures owed { (HasCause (A.width arith.old) inst.now log.now self.old → ⊥)
+        ensures fits { (WantsTable (A.width arith.old) inst.now self.old → ⊥) → A.unfit_count arith.new ≡ A.unfit_count arith.old }
+        ensures owed { (WantsTable (A.width arith.old) inst.now self.old → ⊥)
             → IfOk result (λ _. A.work_count arith.new ≤ A.work_count arith.old + ground_owed (row_count inst.now) self.old) }
-        ensures unowed { (HasCause (A.width arith.old) inst.now log.now self.old → ⊥) → IfOk result (λ _. ground_owed (row_count inst.now) self.new ≡ 0) }
-        ensures cause { IfErr result (OverflowsFor (HasCause (A.width arith.old) inst.now log.now self.old)) }
-        ensures rose { IfErr result (HasRisen (A.unfit_count arith.old) (A.unfit_count arith.new)) }
+        ensures unowed { (WantsTable (A.width arith.old) inst.now self.old → ⊥) → IfOk result (λ _. ground_owed (row_count inst.now) self.new ≡ 0) }
     {
         if let Some(ticket) = self.ask_factors(alloc, inst, log, arith)? {
             return Ok(ticket);
         }
-        self.give_up(rt, alloc, inst, log, arith)?;
-        Ok(self.ask_table(alloc, inst)?)
+        self.ask_table(rt, alloc, inst, log, arith)
     }
 
     /// The ground of the start: factors of its basis.
@@ -134,6 +144,7 @@ impl Ground {
         requires well_formed { IsWellFormed inst.now }
         requires fits { StartFits (A.width arith.old) inst.now }
         ensures stands { IfOk result (GroundStands (A.width arith.old) inst.now []) }
+        ensures made { IfOk result (BeginsBuilt (A.width arith.old) inst.now) }
         ensures factors { IfOk result (λ begun. mode_of begun ≡ Mode.Factors) }
         ensures fits { IfOk result (λ _. A.unfit_count arith.new ≡ A.unfit_count arith.old) }
         ensures work { IfOk result (λ _. A.work_count arith.new ≤ A.work_count arith.old + (stored_entries inst.now + making_work inst.now)) }

@@ -1,5 +1,5 @@
 //! The board: a run with its budget, its arithmetic and its log.
-ghost use Rattle.std.specs.Prelude.{◌≡◌, ◌≢◌, ◌+◌, ◌<◌, ◌≤◌, ◌↔◌, ℕ, [], length, false, IsTrue, IfErr, IfOk, OnErr, Err};
+ghost use Rattle.std.specs.Prelude.{◌≡◌, ◌≢◌, ◌+◌, ◌<◌, ◌≤◌, ◌↔◌, ℕ, [], length, false, IsTrue, IfErr, IfOk, OnErr, OnOk, Err};
 ghost use Rattle.lp_model.specs.Log.{moves as moves_of};
 ghost use Rattle.deck_model.specs.Outcome.{outcome_of};
 ghost use Rattle.lp_run.specs.Ends.{HasOutcome, Yields};
@@ -11,12 +11,12 @@ ghost use Rattle.factor_run.specs.Bound.{making_work};
 ghost use Rattle.factor_run.specs.Calm.{IsCalm};
 ghost use Rattle.two_phase.specs.Works.{ground_owed, move_work, recorded_work};
 ghost use Rattle.lp_run.specs.Run.{IsRun};
-ghost use Rattle.bland_ratio.specs.Pricing.{IsExactChoice, IsExactTicket};
+ghost use Rattle.bland_ratio.specs.Pricing.{IsExactChoice};
 ghost use Rattle.run_outcome.specs.Endings.{IsOutcomeCause, count_after};
-ghost use Rattle.two_phase.specs.Board.{AreBuilt, BoardStands, HasFactors, HasGivenUp, HasNoCause, IsChoiceFor, HasEnded, IsClosingCause, IsRecordCause, IsSameRun, IsStandingOf, IsStartCause, IsTicketCause, IsUnmoved, Records, standing_on, state_of};
+ghost use Rattle.two_phase.specs.Board.{AreBuilt, BoardStands, HasFactors, HasGivenUp, HasGivenUpFor, HasNoCause, IsChoiceFor, HasEnded, IsClosingCause, IsRecordCause, IsSameRun, IsStandingOf, IsStartCause, IsTicketCause, IsUnmoved, Records, standing_on, state_of};
 ghost use Rattle.two_phase.specs.Inner.Recording.{IsTakingCause, noted};
-ghost use Rattle.two_phase.specs.Inner.Grounds.{GroundStands};
-ghost use Rattle.two_phase.specs.Modes.{IsPaidBy, mode_of};
+ghost use Rattle.two_phase.specs.Inner.Grounds.{Asks, BeginsBuilt, GroundStands, WantsTable};
+ghost use Rattle.two_phase.specs.Modes.{mode_of};
 ghost use Rattle.two_phase.specs.declared.standing.BoardFault.{BoardFault};
 ghost use Rattle.two_phase.specs.declared.standing.Course.{Course};
 ghost use Rattle.two_phase.specs.declared.standing.Mode.{Mode};
@@ -123,23 +123,24 @@ impl<A: Arith> Board<A> {
     }
 
     /// The ticket of the board's state, exact for it: with its prices where the board works with factors, else with its
-    /// reduced costs. Where a price does not fit the width, the factors are given up for the plain table.
+    /// reduced costs. Where the prices are not worked yet and do not fit the width, and only there, the factors are given up
+    /// for the plain table.
     ///
     /// # Errors
     ///
     /// `Ended` exactly where the run does not go on; `Overflow` with the place of the first value of the run that does not
-    /// fit the width, `Memory` for want of memory.
+    /// fit the width, where the plain table is asked or wanted; `Memory` for want of memory. The board is as it was then,
+    /// but for its counts of unfit results and of work.
     pub fn ticket<R: Threads + Sync>(&mut self, rt: &R, alloc: Global) -> Result<Ticket, BoardFault>
         requires stands { BoardStands (A.width self.old.arith) self.old }
         ensures stands { BoardStands (A.width self.old.arith) self.new }
         ensures same { IsSameRun self.old self.new }
         ensures unmoved { IsUnmoved self.old self.new }
-        ensures exact { IfOk result (IsExactTicket self.old.inst.value (state_of self.old)) }
-        ensures number { IfOk result (λ ticket. ticket.number ≡ length self.old.log) }
-        ensures paid { IfOk result (λ ticket. IsPaidBy (mode_of self.new.ground) ticket.pay) }
+        ensures refused { OnErr result (mode_of self.new.ground ≡ mode_of self.old.ground) }
+        ensures asks { IfOk result (Asks self.old.inst.value self.old.log self.new.ground) }
+        ensures rescued { OnOk result ((mode_of self.new.ground ≡ Mode.Plain) ↔ WantsTable (A.width self.old.arith) self.old.inst.value self.old.ground) }
         ensures ended { standing_on self.old ≢ Standing.Running → result ≡ Err (BoardFault.Ended (standing_on self.old)) }
         ensures fault { IfErr result (IsTicketCause (A.width self.old.arith) self.old (A.unfit_count self.old.arith) (A.unfit_count self.new.arith)) }
-        ensures given_up { HasGivenUp (A.width self.old.arith) self.old self.new }
         ensures built { AreBuilt (A.width self.old.arith) self.old → AreBuilt (A.width self.old.arith) self.new }
         ensures width { A.width self.new.arith ≡ A.width self.old.arith }
         ensures unfit { A.unfit_count self.old.arith ≤ A.unfit_count self.new.arith }
@@ -174,6 +175,7 @@ impl<A: Arith> Board<A> {
         ensures same { IsSameRun self.old self.new }
         ensures recorded { IfOk result (Records self.old self.new choice.now) }
         ensures unmoved { OnErr result (IsUnmoved self.old self.new) }
+        ensures refused { OnErr result (mode_of self.new.ground ≡ mode_of self.old.ground) }
         ensures fault { IfErr result (IsTakingCause (A.width self.old.arith) self.old choice.now (A.unfit_count self.old.arith) (A.unfit_count self.new.arith)) }
         ensures given_up { choice.now.unfit ≡ false → HasGivenUp (A.width self.old.arith) self.old self.new }
         ensures built { AreBuilt (A.width self.old.arith) self.old → AreBuilt (A.width self.old.arith) self.new }
@@ -213,15 +215,16 @@ impl<A: Arith> Board<A> {
         }
     }
 
-    /// Takes in what follows from a choice: the next entry of the run comes into the log, or the run ends. Where the
-    /// choice is unfit and the board works with factors, they are given up for the plain table, and a new choice is wanted;
-    /// with the plain table an unfit choice is settled by its reduced costs. A swap after 64 updates makes the factors anew.
+    /// Takes in what follows from a choice: the next entry of the run comes into the log, or the run ends. Where the choice
+    /// is unfit and the board works with factors, and only there, the answer is `Rescued`: they are given up for the plain
+    /// table, and a new choice is wanted. With the plain table an unfit choice is settled by its reduced costs. A swap after
+    /// 64 updates makes the factors anew.
     ///
     /// # Errors
     ///
     /// `Ended` exactly where the run does not go on; then `Stale` exactly where the choice is of an earlier number than the
     /// board's. `Overflow` with the place of the first value of the run that does not fit the width, `Memory` for want of
-    /// memory. Log, standing and counts are as they were then.
+    /// memory. The board is as it was then, but for its counts of unfit results and of work.
     pub fn record<R: Threads + Sync>(
         &mut self,
         rt: &R,
@@ -234,10 +237,11 @@ impl<A: Arith> Board<A> {
         ensures same { IsSameRun self.old self.new }
         ensures recorded { IfOk result (Records self.old self.new choice) }
         ensures unmoved { OnErr result (IsUnmoved self.old self.new) }
+        ensures refused { OnErr result (mode_of self.new.ground ≡ mode_of self.old.ground) }
         ensures ended { standing_on self.old ≢ Standing.Running → result ≡ Err (BoardFault.Ended (standing_on self.old)) }
         ensures stale { standing_on self.old ≡ Standing.Running → choice.number < length self.old.log → result ≡ Err (BoardFault.Stale (length self.old.log)) }
         ensures fault { IfErr result (IsRecordCause (A.width self.old.arith) self.old choice (A.unfit_count self.old.arith) (A.unfit_count self.new.arith)) }
-        ensures given_up { choice.unfit ≡ false → HasGivenUp (A.width self.old.arith) self.old self.new }
+        ensures given_up { HasGivenUpFor (A.width self.old.arith) self.old self.new choice }
         ensures built { AreBuilt (A.width self.old.arith) self.old → AreBuilt (A.width self.old.arith) self.new }
         ensures width { A.width self.new.arith ≡ A.width self.old.arith }
         ensures unfit { A.unfit_count self.old.arith ≤ A.unfit_count self.new.arith }
@@ -383,7 +387,7 @@ impl<A: Arith> Board<A> {
     /// How the board stands.
     pub fn standing(&self) -> Standing
         ensures value { result ≡ standing_on self.now }
-        ensures so { (w : ℕ) → BoardStands w self.now → IsStandingOf self.now.inst.value self.now.budget (state_of self.now) result }
+        ensures so { (w : ℕ) → BoardStands w self.now → IsStandingOf self.now.inst.value self.now.budget (length self.now.log) (state_of self.now) result }
     {
         standing_of(self.course)
     }
@@ -410,6 +414,7 @@ fn begin<A: Arith>(alloc: Global, inst: &Instance, arith: &mut A) -> Result<Grou
     requires fits { StartFits (A.width arith.old) inst.now }
     ensures well_formed { IsWellFormed inst.now }
     ensures stands { IfOk result (GroundStands (A.width arith.old) inst.now []) }
+    ensures made { IfOk result (BeginsBuilt (A.width arith.old) inst.now) }
     ensures fault { IfErr result (IsStartCause (A.width arith.old) inst.now (A.unfit_count arith.old) (A.unfit_count arith.new)) }
     ensures width { A.width arith.new ≡ A.width arith.old }
     ensures unfit { A.unfit_count arith.old ≤ A.unfit_count arith.new }

@@ -1,10 +1,9 @@
 //! What a run stands on: factors of its state's basis, or, where they are given up, the plain table.
-ghost use Rattle.std.specs.Prelude.{◌≡◌, ◌+◌, ◌≤◌, ◌↔◌, ℕ, None, IsTrue, true, false, IfErr, IfOk, IfSome, OnErr, OnOk};
+ghost use Rattle.std.specs.Prelude.{◌≡◌, ◌+◌, ◌≤◌, ◌↔◌, ℕ, IsTrue, true, false, length, IfErr, IfNone, IfOk, IfSome, OnErr, OnOk};
 ghost use Rattle.lp_model.specs.Log.{moves};
 ghost use Rattle.lp_run.specs.Instance.{IsWellFormed, row_count};
 ghost use Rattle.lp_run.specs.Listing.{StartFits};
 ghost use Rattle.bland_ratio.specs.Pricing.{IsExactChoice};
-ghost use Rattle.plain_table.specs.Answers.{IsRunLog};
 
 use crate::iterate::Iterate;
 use crate::plain::{advance_on, replay};
@@ -29,7 +28,8 @@ pub enum Ground {
 }
 
 impl Ground {
-    ghost use Rattle.two_phase.specs.Inner.Grounds.{GivesUp, GroundReaches, GroundRescues, GroundStands, HasCause, IsPlain, ground_state};
+    ghost use Rattle.two_phase.specs.Inner.Grounds.{FactorsGo, GivesUp, GroundReaches, GroundRescues, GroundStands, HasCause, IsPlain, IsStill, ground_state};
+    ghost use Rattle.two_phase.specs.Modes.{mode_of};
     ghost use Rattle.two_phase.specs.Inner.Plains.{HasRisen, IsRunFault, OverflowsFor};
     ghost use Rattle.two_phase.specs.Inner.Reaching.{IsChosen};
     ghost use Rattle.two_phase.specs.Works.{ground_owed, move_work};
@@ -50,18 +50,16 @@ impl Ground {
         requires chosen { IsChosen inst.now (ground_state self.old) entering }
         requires within { moves log.old ≤ budget }
         ensures reached { IfOk result (λ tried. IfSome tried (GroundReaches (A.width arith.old) inst.now budget log.old (ground_state self.old) log.new self.new)) }
-        ensures given_up { GivesUp (A.width arith.old) inst.now log.old self.old self.new }
-        ensures left { IfOk result (λ tried. tried ≡ None → (log.new ≡ log.old) × GroundStands (A.width arith.old) inst.now log.old self.new × HasCause (A.width arith.old) inst.now log.old self.old) }
-        ensures log_kept { OnErr result (log.new ≡ log.old) }
-        ensures stands { OnErr result (GroundStands (A.width arith.old) inst.now log.old self.new) }
-        ensures state { IfOk result (λ tried. tried ≡ None → ground_state self.new ≡ ground_state self.old) }
+        ensures goes { IfOk result (λ tried. IfSome tried (FactorsGo (A.width arith.old) inst.now (length log.old) self.old self.new)) }
+        ensures left { IfOk result (λ tried. IfNone tried (HasCause (A.width arith.old) inst.now log.old self.old × IsStill (A.width arith.old) inst.now log.old self.old self.new)) }
+        ensures log_kept { IfOk result (λ tried. IfNone tried (log.new ≡ log.old)) × OnErr result (log.new ≡ log.old) }
+        ensures still { OnErr result (IsStill (A.width arith.old) inst.now log.old self.old self.new) }
+        ensures mode { mode_of self.new ≡ mode_of self.old }
         ensures width { A.width arith.new ≡ A.width arith.old }
         ensures unfit { A.unfit_count arith.old ≤ A.unfit_count arith.new }
-        ensures fits { IfOk result (λ tried. IfSome tried (λ _. A.unfit_count arith.new ≡ A.unfit_count arith.old)) }
-        ensures fitted { OnErr result (A.unfit_count arith.new ≡ A.unfit_count arith.old) }
+        ensures fits { IfOk result (λ tried. IfSome tried (λ _. A.unfit_count arith.new ≡ A.unfit_count arith.old)) × OnErr result (A.unfit_count arith.new ≡ A.unfit_count arith.old) }
         ensures spent { IfOk result (λ tried. IfSome tried (λ reached. A.work_count arith.new ≤ A.work_count arith.old
             + (ground_owed (row_count inst.now) self.old + (move_work (row_count inst.now) + reached_work (row_count inst.now) (ground_updates self.old) reached)))) }
-        ensures plain_stays { IsPlain self.old → IsPlain self.new }
     {
         match self {
             Ground::Plain(_) => Ok(None),
@@ -75,9 +73,9 @@ impl Ground {
         }
     }
 
-    /// Gives the factors up, where there are: the plain table is made anew along the log. After a refusal nothing has
-    /// changed.
-    pub fn give_up<R: Threads + Sync, A: Arith>(
+    // Gives the factors up, where there are: the plain table is made anew along the log. After a refusal nothing has
+    // changed.
+    fn give_up<R: Threads + Sync, A: Arith>(
         &mut self,
         rt: &R,
         alloc: Global,
@@ -87,16 +85,14 @@ impl Ground {
     ) -> Result<(), TableFault>
         requires well_formed { IsWellFormed inst.now }
         requires fits { StartFits (A.width arith.old) inst.now }
-        requires run { IsRunLog inst.now log.now }
         requires stands { GroundStands (A.width arith.old) inst.now log.now self.old }
         ensures plain { OnOk result (IsPlain self.new) }
         ensures stands { OnOk result (GroundStands (A.width arith.old) inst.now log.now self.new) }
-        ensures state { OnOk result (ground_state self.new ≡ ground_state self.old) }
-        ensures fault { IfErr result (IsRunFault (A.width arith.old) inst.now log.now) }
         ensures kept { OnErr result (self.new ≡ self.old) }
+        ensures fault { IfErr result (IsRunFault (A.width arith.old) inst.now log.now) }
+        ensures rose { IfErr result (HasRisen (A.unfit_count arith.old) (A.unfit_count arith.new)) }
         ensures width { A.width arith.new ≡ A.width arith.old }
         ensures unfit { A.unfit_count arith.old ≤ A.unfit_count arith.new }
-        ensures rose { IfErr result (HasRisen (A.unfit_count arith.old) (A.unfit_count arith.new)) }
     {
         match self {
             Ground::Plain(_) => Ok(()),
@@ -108,42 +104,45 @@ impl Ground {
         }
     }
 
-    /// Goes on over the plain table.
-    pub fn over_table<R: Threads + Sync, A: Arith>(
+    // Goes on over the plain table. Where there are factors it is made along the log, and comes in their place once it has
+    // gone on: after a refusal nothing has changed.
+    fn over_table<R: Threads + Sync, A: Arith>(
         &mut self,
         rt: &R,
+        alloc: Global,
         inst: &Instance,
         budget: u64,
         log: &mut Log,
         arith: &mut A,
     ) -> Result<Reached, TableFault>
         requires well_formed { IsWellFormed inst.now }
-        requires plain { IsPlain self.old }
+        requires fits { StartFits (A.width arith.old) inst.now }
         requires stands { GroundStands (A.width arith.old) inst.now log.old self.old }
         requires within { moves log.old ≤ budget }
         ensures reached { IfOk result (GroundReaches (A.width arith.old) inst.now budget log.old (ground_state self.old) log.new self.new) }
+        ensures plain { OnOk result (IsPlain self.new) }
         ensures log_kept { OnErr result (log.new ≡ log.old) }
         ensures kept { OnErr result (self.new ≡ self.old) }
         ensures fault { IfErr result (IsRunFault (A.width arith.old) inst.now log.old) }
+        ensures rose { IfErr result (HasRisen (A.unfit_count arith.old) (A.unfit_count arith.new)) }
         ensures width { A.width arith.new ≡ A.width arith.old }
         ensures unfit { A.unfit_count arith.old ≤ A.unfit_count arith.new }
-        ensures rose { IfErr result (HasRisen (A.unfit_count arith.old) (A.unfit_count arith.new)) }
-        ensures stays { IsPlain self.new }
     {
         match self {
             Ground::Plain(table) => advance_on(rt, inst, budget, log, table, arith),
-            Ground::Factors(_) => unreachable!(),
+            Ground::Factors(_) => {
+                let mut table = replay(rt, alloc, inst, log, arith)?;
+                let reached = advance_on(rt, inst, budget, log, &mut table, arith)?;
+                *self = Ground::Plain(table);
+                Ok(reached)
+            }
         }
     }
 
-    /// Goes on from the state by the column that enters; where none is eligible, to phase two or to the end. Where a
-    /// value that is worked with the factors does not fit, they are given up, and the plain table goes on.
-    ///
-    /// # Errors
-    ///
-    /// `Overflow` with the place of the first value of the run that does not fit the width, `Memory` for want of memory.
-    /// The log is as it was then, and it is stood on at the same state.
-    pub fn advance<R: Threads + Sync, A: Arith>(
+    // Goes on from the state by the column that enters; where none is eligible, to phase two or to the end. Where a value
+    // that is worked with the factors does not fit, the plain table goes on in their place. After a refusal the log, and
+    // what is stood on, is as it was.
+    fn advance<R: Threads + Sync, A: Arith>(
         &mut self,
         rt: &R,
         alloc: Global,
@@ -159,24 +158,24 @@ impl Ground {
         requires chosen { IsChosen inst.now (ground_state self.old) entering }
         requires within { moves log.old ≤ budget }
         ensures reached { IfOk result (GroundReaches (A.width arith.old) inst.now budget log.old (ground_state self.old) log.new self.new) }
-        ensures given_up { GivesUp (A.width arith.old) inst.now log.old self.old self.new }
+        ensures goes { IfOk result (FactorsGo (A.width arith.old) inst.now (length log.old) self.old self.new) }
+        ensures given_up { OnOk result (GivesUp (A.width arith.old) inst.now log.old self.old self.new) }
+        ensures plain_stays { OnOk result (IsPlain self.old → IsPlain self.new) }
         ensures log_kept { OnErr result (log.new ≡ log.old) }
-        ensures stands { OnErr result (GroundStands (A.width arith.old) inst.now log.old self.new) }
+        ensures still { OnErr result (IsStill (A.width arith.old) inst.now log.old self.old self.new) }
         ensures fault { IfErr result (IsRunFault (A.width arith.old) inst.now log.old) }
+        ensures cause { IfErr result (OverflowsFor (HasCause (A.width arith.old) inst.now log.old self.old)) }
+        ensures rose { IfErr result (HasRisen (A.unfit_count arith.old) (A.unfit_count arith.new)) }
         ensures width { A.width arith.new ≡ A.width arith.old }
         ensures unfit { A.unfit_count arith.old ≤ A.unfit_count arith.new }
         ensures fits { (HasCause (A.width arith.old) inst.now log.old self.old → ⊥) → A.unfit_count arith.new ≡ A.unfit_count arith.old }
         ensures spent { (HasCause (A.width arith.old) inst.now log.old self.old → ⊥) → IfOk result (λ reached. A.work_count arith.new ≤ A.work_count arith.old
             + (ground_owed (row_count inst.now) self.old + (move_work (row_count inst.now) + reached_work (row_count inst.now) (ground_updates self.old) reached))) }
-        ensures cause { IfErr result (OverflowsFor (HasCause (A.width arith.old) inst.now log.old self.old)) }
-        ensures rose { IfErr result (HasRisen (A.unfit_count arith.old) (A.unfit_count arith.new)) }
-        ensures plain_stays { IsPlain self.old → IsPlain self.new }
     {
         if let Some(reached) = self.over_factors(alloc, inst, budget, log, entering, arith)? {
             return Ok(reached);
         }
-        self.give_up(rt, alloc, inst, log, arith)?;
-        self.over_table(rt, inst, budget, log, arith)
+        self.over_table(rt, alloc, inst, budget, log, arith)
     }
 
     /// Whether the plain table is stood on.
@@ -195,7 +194,7 @@ impl Ground {
     /// # Errors
     ///
     /// `Overflow` with the place of the first value of the run that does not fit the width, `Memory` for want of memory.
-    /// The log is as it was then, and it is stood on at the same state.
+    /// The log is as it was then, and it is stood on at the same state, by the same factors or the same table.
     pub fn record<R: Threads + Sync, A: Arith>(
         &mut self,
         rt: &R,
@@ -212,24 +211,25 @@ impl Ground {
         requires exact { IsExactChoice (A.width arith.old) inst.now (ground_state self.old) choice.now }
         requires within { moves log.old ≤ budget }
         ensures reached { IfOk result (λ gone. IfSome gone (GroundReaches (A.width arith.old) inst.now budget log.old (ground_state self.old) log.new self.new)) }
+        ensures goes { IfOk result (λ gone. IfSome gone (FactorsGo (A.width arith.old) inst.now (length log.old) self.old self.new)) }
         ensures rescued { IfOk result (GroundRescues choice.now.unfit (A.width arith.old) inst.now log.old self.old log.new self.new) }
-        ensures given_up { choice.now.unfit ≡ false → GivesUp (A.width arith.old) inst.now log.old self.old self.new }
+        ensures given_up { choice.now.unfit ≡ false → OnOk result (GivesUp (A.width arith.old) inst.now log.old self.old self.new) }
+        ensures plain_stays { OnOk result (IsPlain self.old → IsPlain self.new) }
         ensures log_kept { OnErr result (log.new ≡ log.old) }
-        ensures stands { OnErr result (GroundStands (A.width arith.old) inst.now log.old self.new) }
+        ensures still { OnErr result (IsStill (A.width arith.old) inst.now log.old self.old self.new) }
         ensures fault { IfErr result (IsRunFault (A.width arith.old) inst.now log.old) }
+        ensures cause { choice.now.unfit ≡ false → IfErr result (OverflowsFor (HasCause (A.width arith.old) inst.now log.old self.old)) }
+        ensures rose { IfErr result (HasRisen (A.unfit_count arith.old) (A.unfit_count arith.new)) }
         ensures width { A.width arith.new ≡ A.width arith.old }
         ensures unfit { A.unfit_count arith.old ≤ A.unfit_count arith.new }
         ensures fits { choice.now.unfit ≡ false → (HasCause (A.width arith.old) inst.now log.old self.old → ⊥) → A.unfit_count arith.new ≡ A.unfit_count arith.old }
         ensures spent { choice.now.unfit ≡ false → (HasCause (A.width arith.old) inst.now log.old self.old → ⊥)
             → IfOk result (λ gone. IfSome gone (λ reached. A.work_count arith.new ≤ A.work_count arith.old
             + (ground_owed (row_count inst.now) self.old + (move_work (row_count inst.now) + reached_work (row_count inst.now) (ground_updates self.old) reached)))) }
-        ensures cause { choice.now.unfit ≡ false → IfErr result (OverflowsFor (HasCause (A.width arith.old) inst.now log.old self.old)) }
-        ensures rose { IfErr result (HasRisen (A.unfit_count arith.old) (A.unfit_count arith.new)) }
-        ensures plain_stays { IsPlain self.old → IsPlain self.new }
     {
         if choice.unfit {
             if self.is_plain() {
-                let reached = self.over_table(rt, inst, budget, log, arith)?;
+                let reached = self.over_table(rt, alloc, inst, budget, log, arith)?;
                 return Ok(Some(reached));
             }
             self.give_up(rt, alloc, inst, log, arith)?;

@@ -21,11 +21,9 @@ ghost use Rattle.lp_run.specs.Step.{Enters, IsNext, NoneEligible};
 ghost use Rattle.factor_model.specs.Eta.{apply, stored};
 ghost use Rattle.factor_model.specs.Factors.{AreFactors};
 ghost use Rattle.factor_model.specs.Update.{HasPivot};
-ghost use Rattle.factor_run.specs.Built.{entering_column, exchanged};
+ghost use Rattle.factor_run.specs.Built.{entering_column, exchanged, made_anew};
 ghost use Rattle.two_phase.specs.Inner.Factoring.{IsBasis};
 ghost use Rattle.two_phase.specs.Works.{follow_work};
-ghost use Rattle.factor_model.specs.Factors as model;
-ghost use Rattle.factor_run.specs.Calm.{basic_costs};
 ghost use Rattle.factor_run.specs.Causes.{Cause};
 ghost use Rattle.two_phase.specs.Board.{StartsUnfit};
 ghost use Rattle.two_phase.specs.Inner.Refusals.{Explains, count_after};
@@ -62,8 +60,8 @@ pub struct Iterate {
 }
 
 impl Iterate {
-    ghost use Rattle.two_phase.specs.Inner.Iterates.{AreWorked, HasFollowed, IsEntered, IsIterate, IsIterateOf, IsKept, IsSpared, IsTaken};
-    ghost use Rattle.two_phase.specs.Inner.Reaching.{IsChosen, Reaches};
+    ghost use Rattle.two_phase.specs.Inner.Iterates.{AreWorked, HasFollowed, HasUnfitPrices, IsEntered, IsIterate, IsIterateOf, IsKept, IsSpared, IsTaken};
+    ghost use Rattle.two_phase.specs.Inner.Reaching.{GoesWith, IsChosen, Reaches};
     ghost use Rattle.two_phase.specs.Works.{move_work, owed, solve_most};
     ghost use Rattle.two_phase.specs.Inner.Works.{reached_work};
 
@@ -73,7 +71,8 @@ impl Iterate {
         ensures stands { (log : List LogEntry) → IsIterate (A.width arith.old) inst.now log self.old → IsIterate (A.width arith.old) inst.now log self.new }
         ensures kept { IsKept self.old self.new }
         ensures priced { OnOk result (self.new.is_priced ≡ true) }
-        ensures refusal { OnErr result (settle (A.width arith.old) (model.btran self.old.factors (basic_costs inst.now self.old.state)) ≡ None) }
+        ensures refusal { OnErr result (HasUnfitPrices (A.width arith.old) inst.now self.old) }
+        ensures fits { OnOk result (HasUnfitPrices (A.width arith.old) inst.now self.old → ⊥) }
         ensures width { A.width arith.new ≡ A.width arith.old }
         ensures unfit { A.unfit_count arith.new ≡ unfit_after (A.unfit_count arith.old) result }
         ensures work { A.work_count arith.new ≤ A.work_count arith.old + (stored self.old.factors.etas + (row_count inst.now * row_count inst.now + row_count inst.now)) }
@@ -212,6 +211,7 @@ impl Iterate {
         requires entered { IsEntered inst.now q self.old (record { down = down; leave = leave.Flip ratio }) }
         ensures log { OnOk result (log.new ≡ log.old ++ Flip q ∷ []) }
         ensures stands { OnOk result (IsIterate (A.width arith.old) inst.now log.new self.new) }
+        ensures same { OnOk result (self.new.factors ≡ self.old.factors) }
         ensures log_kept { OnErr result (log.new ≡ log.old) }
         ensures spared { OnErr result (IsSpared self.old self.new) }
         ensures refusal { IfErr result (Explains (Cause (A.width arith.old) inst.now (length log.old) self.old.state self.old.factors)) }
@@ -295,6 +295,7 @@ impl Iterate {
         requires entered { IsEntered inst.now q self.old (record { down = down; leave = leave.Out p end ratio }) }
         ensures log { OnOk result (log.new ≡ log.old ++ Swap q p end ∷ []) }
         ensures stands { OnOk result (IsIterate (A.width arith.old) inst.now log.new self.new) }
+        ensures followed { OnOk result (settle (A.width arith.old) (exchanged inst.now (after self.old.state (Swap q p end)) (length log.old + 1) self.old.factors p q) ≡ Some (Some self.new.factors)) }
         ensures log_kept { OnErr result (log.new ≡ log.old) }
         ensures spared { OnErr result (IsSpared self.old self.new) }
         ensures refusal { IfErr result (Explains (Cause (A.width arith.old) inst.now (length log.old) self.old.state self.old.factors)) }
@@ -326,6 +327,7 @@ impl Iterate {
     pub fn turn(&mut self, log: &mut Log) -> Result<(), Memory>
         ensures log { OnOk result (log.new ≡ log.old ++ Turn ∷ []) }
         ensures stands { (w : ℕ) (inst : Equations) → IsWellFormed inst → IsIterate w inst log.old self.old → IsNext inst self.old.state Turn → OnOk result (IsIterate w inst log.new self.new) }
+        ensures same { OnOk result (self.new.factors ≡ self.old.factors) }
         ensures log_kept { OnErr result (log.new ≡ log.old) }
         ensures kept { OnErr result (self.new ≡ self.old) }
     {
@@ -342,6 +344,7 @@ impl Iterate {
         requires values { length self.old.values.items ≡ row_count inst.now }
         ensures reached { (w budget : ℕ) → IsWellFormed inst.now → IsIterate w inst.now log.old self.old → self.old.is_priced ≡ true → moves log.old ≤ budget
             → IfOk result (Reaches w inst.now budget log.old self.old.state log.new self.new) }
+        ensures goes { (w : ℕ) → IfOk result (GoesWith w inst.now (length log.old) self.old.state self.old.factors self.new.factors) }
         ensures log_kept { OnErr result (log.new ≡ log.old) }
         ensures kept { OnErr result (self.new ≡ self.old) }
     {
@@ -376,6 +379,7 @@ impl Iterate {
         requires entered { IsEntered inst.now q self.old (record { down = down; leave = leave.Flip ratio }) }
         requires within { moves log.old ≤ budget }
         ensures reached { IfOk result (Reaches (A.width arith.old) inst.now budget log.old self.old.state log.new self.new) }
+        ensures goes { IfOk result (GoesWith (A.width arith.old) inst.now (length log.old) self.old.state self.old.factors self.new.factors) }
         ensures log_kept { OnErr result (log.new ≡ log.old) }
         ensures spared { OnErr result (IsSpared self.old self.new) }
         ensures refusal { IfErr result (Explains (Cause (A.width arith.old) inst.now (length log.old) self.old.state self.old.factors)) }
@@ -411,6 +415,7 @@ impl Iterate {
         requires entered { IsEntered inst.now q self.old (record { down = down; leave = leave.Out p end ratio }) }
         requires within { moves log.old ≤ budget }
         ensures reached { IfOk result (Reaches (A.width arith.old) inst.now budget log.old self.old.state log.new self.new) }
+        ensures goes { IfOk result (GoesWith (A.width arith.old) inst.now (length log.old) self.old.state self.old.factors self.new.factors) }
         ensures log_kept { OnErr result (log.new ≡ log.old) }
         ensures spared { OnErr result (IsSpared self.old self.new) }
         ensures refusal { IfErr result (Explains (Cause (A.width arith.old) inst.now (length log.old) self.old.state self.old.factors)) }
@@ -442,6 +447,7 @@ impl Iterate {
         requires enters { Enters inst.now self.old.state self.old.prices.items q }
         requires within { moves log.old ≤ budget }
         ensures reached { IfOk result (Reaches (A.width arith.old) inst.now budget log.old self.old.state log.new self.new) }
+        ensures goes { IfOk result (GoesWith (A.width arith.old) inst.now (length log.old) self.old.state self.old.factors self.new.factors) }
         ensures log_kept { OnErr result (log.new ≡ log.old) }
         ensures stands { OnErr result (IsIterate (A.width arith.old) inst.now log.old self.new) }
         ensures kept { OnErr result (IsKept self.old self.new) }
@@ -483,6 +489,7 @@ impl Iterate {
         requires chosen { IsChosen inst.now self.old.state entering }
         requires within { moves log.old ≤ budget }
         ensures reached { IfOk result (Reaches (A.width arith.old) inst.now budget log.old self.old.state log.new self.new) }
+        ensures goes { IfOk result (GoesWith (A.width arith.old) inst.now (length log.old) self.old.state self.old.factors self.new.factors) }
         ensures log_kept { OnErr result (log.new ≡ log.old) }
         ensures stands { OnErr result (IsIterate (A.width arith.old) inst.now log.old self.new) }
         ensures kept { OnErr result (IsKept self.old self.new) }
@@ -513,6 +520,7 @@ impl Iterate {
     ) -> Result<Iterate, Refusal>
         requires { StartFits (A.width arith.old) inst.now }
         ensures stands { IfOk result (IsIterate (A.width arith.old) inst.now []) }
+        ensures made { IfOk result (λ it. settle (A.width arith.old) (made_anew inst.now (start_of inst.now) 0) ≡ Some (Some it.factors)) }
         ensures refusal { IfErr result (Explains (StartsUnfit (A.width arith.old) inst.now)) }
         ensures width { A.width arith.new ≡ A.width arith.old }
         ensures unfit { A.unfit_count arith.new ≡ count_after (A.unfit_count arith.old) result }

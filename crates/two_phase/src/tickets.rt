@@ -1,15 +1,12 @@
 //! What a round of pricing is asked at a state.
-ghost use Rattle.std.specs.Prelude.{◌≡◌, ◌+◌, ◌*◌, ◌≤◌, List, None, true, IfErr, IfOk};
-ghost use Rattle.rational.specs.Worked.{settle};
+ghost use Rattle.std.specs.Prelude.{◌≡◌, ◌+◌, ◌*◌, ◌≤◌, List, true, IfErr, IfOk};
 ghost use Rattle.lp_model.specs.declared.Entry.{Entry as LogEntry};
 ghost use Rattle.lp_run.specs.Instance.{row_count};
 ghost use Rattle.bland_ratio.specs.Pricing.{IsExactTicket};
 ghost use Rattle.bland_ratio.specs.declared.tickets.Pay.TheVariants as pay;
 ghost use Rattle.factor_model.specs.Eta.{stored};
-ghost use Rattle.factor_model.specs.Factors as model;
-ghost use Rattle.factor_run.specs.Calm.{basic_costs};
 ghost use Rattle.plain_table.specs.Next.{IsTableOf};
-ghost use Rattle.two_phase.specs.Inner.Iterates.{IsIterate, IsIterateOf, IsKept};
+ghost use Rattle.two_phase.specs.Inner.Iterates.{HasUnfitPrices, IsIterate, IsIterateOf, IsKept};
 ghost use Rattle.two_phase.specs.Inner.Refusals.{Explains, count_after};
 ghost use Rattle.two_phase.specs.Works.{owed};
 
@@ -36,7 +33,8 @@ pub fn prices_ticket<A: Arith>(
     ensures exact { IfOk result (IsExactTicket inst.now iterate.new.state) }
     ensures number { IfOk result (λ ticket. ticket.number ≡ number) }
     ensures prices { IfOk result (λ ticket. ticket.pay ≡ pay.Prices iterate.new.prices.items) }
-    ensures refusal { IfErr result (Explains (settle (A.width arith.old) (model.btran iterate.old.factors (basic_costs inst.now iterate.old.state)) ≡ None)) }
+    ensures refusal { IfErr result (Explains (HasUnfitPrices (A.width arith.old) inst.now iterate.old)) }
+    ensures fits { IfOk result (λ _. HasUnfitPrices (A.width arith.old) inst.now iterate.old → ⊥) }
     ensures width { A.width arith.new ≡ A.width arith.old }
     ensures unfit { A.unfit_count arith.new ≡ count_after (A.unfit_count arith.old) result }
     ensures work { A.work_count arith.new ≤ A.work_count arith.old + (stored iterate.old.factors.etas + (row_count inst.now * row_count inst.now + row_count inst.now)) }

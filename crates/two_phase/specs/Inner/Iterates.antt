@@ -1,5 +1,5 @@
 -- Iterates: a state of the run with factors of its basis, its basic values, its prices where they are worked, and room for the next step.
-use Rattle.std.specs.Prelude.{◌≡◌, ℕ, ◌<◌, ◌^◌, List, length, Some, Bool, false, true}
+use Rattle.std.specs.Prelude.{◌≡◌, ℕ, ◌<◌, ◌≤◌, ◌^◌, List, length, None, Bool, false, true}
 use Rattle.lp_model.specs.declared.Entry.{Entry}
 use Rattle.rational.specs.Rational.{ℚ}
 use Rattle.rational.specs.Worked.{settle}
@@ -9,9 +9,10 @@ use Rattle.lp_run.specs.Solution.{ColumnOf, Prices, Values, basis_entry}
 use Rattle.lp_run.specs.State.{after, rest}
 use Rattle.plain_table.specs.Inner.Values.{AreMoved}
 use Rattle.factor_model.specs.Eta.{apply}
-use Rattle.factor_model.specs.Factors.{AreFactors}
+use Rattle.factor_model.specs.Factors.{AreFactors, btran, most_updates}
 use Rattle.factor_model.specs.Upper.{Solves}
-use Rattle.factor_run.specs.Built.{built, entering_column}
+use Rattle.factor_run.specs.Built.{entering_column}
+use Rattle.factor_run.specs.Calm.{basic_costs}
 use Rattle.two_phase.specs.declared.decision.Decision.{Decision}
 use Rattle.two_phase.specs.declared.iterate.Iterate.{Iterate}
 use Rattle.two_phase.specs.Inner.Decisions.{IsDecided}
@@ -24,11 +25,11 @@ pub record IsSized (m : ℕ) (it : Iterate) : Type 0 where
   pub spare : length it.spare.items ≡ m
   pub few : m < 2 ^ 32
 
--- the log leads to the iterate's state, whose basis the factors are of, those that are built along the log; the values and prices are the state's
+-- the log leads to the iterate's state, whose basis the factors are of, with no more updates than they may have; the values and prices are the state's
 pub record IsIterate (w : ℕ) (inst : Instance) (log : List Entry) (it : Iterate) : Type 0 where
   pub reached : IsRun inst log it.state
   pub factors : AreFactors (row_count inst) it.factors (basis_entry inst it.state)
-  pub built : settle w (built inst log) ≡ Some (Some it.factors)
+  pub few : it.factors.updates ≤ most_updates
   pub values : Values inst it.state it.values.items
   pub prices : it.is_priced ≡ true → Prices inst it.state it.prices.items
   pub sized : IsSized (row_count inst) it
@@ -36,6 +37,10 @@ pub record IsIterate (w : ℕ) (inst : Instance) (log : List Entry) (it : Iterat
 -- at some state of the run
 abbrev pub IsIterateOf : ℕ → Instance → Iterate → Type 0
 IsIterateOf w inst it = (log : List Entry) × IsIterate w inst log it
+
+-- the prices are yet to be worked, and a value that is worked for them does not fit
+abbrev pub HasUnfitPrices : ℕ → Instance → Iterate → Type 0
+HasUnfitPrices w inst it = (it.is_priced ≡ false) × (settle w (btran it.factors (basic_costs inst it.state)) ≡ None)
 
 -- nothing but the prices and the room may have changed
 pub record IsKept (old new : Iterate) : Type 0 where

@@ -1,11 +1,11 @@
 -- A run that goes on over the plain table.
-use Rattle.std.specs.Prelude.{◌≡◌, ℕ, ◌≤◌, List, [], ◌∷◌, ◌++◌}
+use Rattle.std.specs.Prelude.{◌≡◌, ℕ, ◌≤◌, List, [], ◌∷◌, ◌++◌, length}
 use Rattle.lp_model.specs.declared.Entry.{Entry}
 use Rattle.lp_model.specs.Log.{moves}
 use Rattle.exact_frac.specs.Count.{raised}
 use Rattle.lp_run.specs.Instance.{Instance}
 use Rattle.lp_run.specs.Listing.{IsFirstUnfit}
-use Rattle.lp_run.specs.Run.{IsRun, IsSpent}
+use Rattle.lp_run.specs.Run.{IsRun}
 use Rattle.lp_run.specs.State.{State}
 use Rattle.lp_run.specs.Step.{IsNext}
 use Rattle.table_laws.specs.Fitted.{HasFitted}
@@ -13,6 +13,7 @@ use Rattle.plain_table.specs.declared.faults.TableFault.{TableFault}
 use Rattle.plain_table.specs.declared.faults.TableFault.TheVariants as fault
 use Rattle.plain_table.specs.Next.{column, prices}
 use Rattle.plain_table.specs.Plain.{Plain, Stands}
+use Rattle.two_phase.specs.Spent.{IsSpentAt}
 use Rattle.two_phase.specs.declared.reached.Reached.{Reached}
 use Rattle.two_phase.specs.declared.reached.Reached.TheVariants as reached
 use Rattle.run_outcome.specs.declared.stop.Stop.{Stop}
@@ -38,7 +39,7 @@ TableStops inst t end = Stops inst t.state (prices inst t) t.values (column inst
 abbrev pub TableReaches : ℕ → Instance → ℕ → List Entry → Plain → List Entry → Plain → Reached → Type 0
 TableReaches w inst budget log t log' t' (reached.Entry e) = IsNext inst t.state e × (log' ≡ log ++ e ∷ []) × IsFitted w inst log' t' × (moves log' ≤ budget)
 TableReaches w inst budget log t log' t' (reached.End end) = (log' ≡ log) × (t' ≡ t) × TableStops inst t end
-TableReaches w inst budget log t log' t' reached.Spent = (log' ≡ log) × (t' ≡ t) × IsSpent inst budget
+TableReaches w inst budget log t log' t' reached.Spent = (log' ≡ log) × (t' ≡ t) × IsSpentAt inst budget (length log) t.state
 
 -- an overflow has the place of the first value that does not fit, of all that are listed up to the state that the log reaches; want of memory has no cause
 abbrev pub IsRunFault : ℕ → Instance → List Entry → TableFault → Type 0

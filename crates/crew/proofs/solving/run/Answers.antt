@@ -1,9 +1,11 @@
 use Rattle.std.proofs.Common.{◌+◌, refl, ◌∙◌, ap, sym, subst, arith}
-use Rattle.two_phase.proofs.Boards.{not_plain}
+use Rattle.two_phase.proofs.Grounds.{not_plain}
 use Rattle.two_phase.proofs.Tallies.{nothing_worked}
-use Rattle.crew.proofs.Calms.{calm_yet, on_ok_all, round_worked}
+use Rattle.crew.proofs.Calms.{calm_yet, on_ok_all, risen_if, round_worked, spent_rose}
+use Rattle.plain_table.proofs.Coming.{handed_on}
+use Rattle.crew.specs.Inner.Works.{HasRisen}
 use Rattle.std.specs.Arc.{arc_value}
-use Rattle.two_phase.specs.Board.{BoardStands}
+use Rattle.two_phase.specs.Board.{AreBuilt, BoardStands}
 use Rattle.two_phase.specs.declared.standing.Recorded.TheVariants as recorded
 use Rattle.crew.specs.Inner.Rounds.{GoesOn}
 use Rattle.crew.proofs.Rounds.{ended_cause, entry_nearer}
@@ -24,6 +26,16 @@ returns-in-Ended-clause-fault g c =
     c.args.board.now.inst.value (ap (λ a. arc_value a) (c.in_ok-round.ensures.instance ∙ c.rounds.invariant.instance))
     c.args.budget (c.in_ok-round.ensures.budget ∙ c.rounds.invariant.budget ∙ c.requires.budget) c.in-Ended.standing goes.1 c.end_of.result c.end_of.ensures.spent
 
+pub returns-in-Ended-clause-rose : goal.returns-in-Ended-clause-rose
+returns-in-Ended-clause-rose g c = spent_rose c.args.budget _ _ c.end_of.result (λ f told. told.0) c.end_of.ensures.spent
+
+pub returns-in_err-round-clause-rose : goal.returns-in_err-round-clause-rose
+returns-in_err-round-clause-rose g c =
+    let before = g.A.Arith.unfit_count c.args.board.now.arith in
+    let after = g.A.Arith.unfit_count c.round.new.board.arith in
+    let there = g.A.Arith.unfit_count c.rounds.board.arith in
+    risen_if before there after c.from_residual.result c.rounds.invariant.board_unfit (handed_on _ (HasRisen there after) c.from_residual.ensures.1 c.in_err-round.ensures.rose)
+
 pub rounds-init : goal.rounds-init
 rounds-init g c =
     let b = c.args.board.now in
@@ -35,7 +47,8 @@ rounds-init g c =
       board_width = refl;
       width = refl;
       unfit = omega arith;
-      calm = λ calm fresh. (not_plain b.ground fresh.factors, refl, refl, nothing_worked b.inst.value b.log b.updates (g.A.Arith.work_count b.arith + g.A.Arith.work_count c.args.arith.now) fresh.log fresh.updates);
+      board_unfit = omega arith;
+      calm = λ calm fresh. (fresh.built, not_plain b.ground fresh.factors, refl, refl, nothing_worked b.inst.value b.log b.updates (g.A.Arith.work_count b.arith + g.A.Arith.work_count c.args.arith.now) fresh.log fresh.updates);
     }
 
 pub rounds-preserved-in-Entry : goal.rounds-preserved-in-Entry
@@ -55,11 +68,12 @@ rounds-preserved-in-Entry g c =
       board_width = e.board_width ∙ inv.board_width;
       width = e.width ∙ inv.width;
       unfit = omega (arith, inv.unfit, e.unfit);
+      board_unfit = omega (arith, inv.board_unfit, e.board_unfit);
       calm = λ calm fresh.
-          let (factors, board_fits, fits, worked) = inv.calm calm fresh in
-          let kept = e.calm (calm_yet _ _ inv.board_width start b new inv.instance calm) factors in
-          let entry = round_worked _ _ inv.board_width start b new inv.instance calm before _ _ _ _ c.in-Entry.is factors worked (e.work before) in
-          (entry.0, kept.0 ∙ board_fits, kept.1 ∙ fits, entry.1);
+          let (along, factors, board_fits, fits, worked) = inv.calm calm fresh in
+          let kept = e.calm (calm_yet _ _ inv.board_width start b new inv.instance calm) (subst (λ w. AreBuilt w b) (sym inv.board_width) along) factors in
+          let entry = round_worked _ _ inv.board_width start b new inv.instance calm before _ _ _ _ c.in-Entry.is along factors worked (e.work before) in
+          (subst (λ w. AreBuilt w new) inv.board_width (e.built (subst (λ w. AreBuilt w b) (sym inv.board_width) along)), entry.0, kept.0 ∙ board_fits, kept.1 ∙ fits, entry.1);
     }
 
 pub rounds-preserved : goal.rounds-preserved
@@ -79,9 +93,10 @@ rounds-preserved g c =
       board_width = e.board_width ∙ inv.board_width;
       width = e.width ∙ inv.width;
       unfit = omega (arith, inv.unfit, e.unfit);
+      board_unfit = omega (arith, inv.board_unfit, e.board_unfit);
       calm = λ calm fresh.
-          let (factors, board_fits, fits, worked) = inv.calm calm fresh in
-          absurd (round_worked _ _ inv.board_width start b new inv.instance calm before _ _ _ _ c.in-Rescued.is factors worked (e.work before));
+          let (along, factors, board_fits, fits, worked) = inv.calm calm fresh in
+          absurd (round_worked _ _ inv.board_width start b new inv.instance calm before _ _ _ _ c.in-Rescued.is along factors worked (e.work before));
     }
 
 pub returns-in-Ended-clause-work : goal.returns-in-Ended-clause-work
@@ -92,5 +107,5 @@ returns-in-Ended-clause-work g c calm fresh =
     let e = c.in_ok-round.ensures in
     let inv = c.rounds.invariant in
     let before = g.A.Arith.work_count start.arith + g.A.Arith.work_count c.args.arith.now in
-    let (factors, board_fits, fits, worked) = inv.calm calm fresh in
-    on_ok_all c.end_of.result (round_worked _ _ inv.board_width start b new inv.instance calm before _ _ _ _ c.in-Ended.is factors worked (e.work before))
+    let (along, factors, board_fits, fits, worked) = inv.calm calm fresh in
+    on_ok_all c.end_of.result (round_worked _ _ inv.board_width start b new inv.instance calm before _ _ _ _ c.in-Ended.is along factors worked (e.work before))

@@ -1,8 +1,8 @@
 use Rattle.std.proofs.Common.{◌+◌, ◌≤◌, IfSome, sym, subst}
 use Rattle.lp_run.specs.Instance.{row_count}
-use Rattle.two_phase.specs.Board.{BoardStands}
+use Rattle.two_phase.specs.Board.{AreBuilt, BoardStands}
 use Rattle.two_phase.specs.Inner.Recording.{IsTakingCause}
-use Rattle.two_phase.proofs.Boards.{records_after, stands_after, stands_built, stands_still, taking_cause, unmoved_after}
+use Rattle.two_phase.proofs.Boards.{built_after, records_after, refused_built, refused_stands, refused_unmoved, stands_after, taking_cause}
 use Rattle.two_phase.specs.Inner.Grounds.{GroundRescues, HasCause}
 use Rattle.two_phase.specs.Works.{ground_owed, move_work, recorded_work}
 use Rattle.two_phase.specs.Inner.Works.{ground_updates, reached_work}
@@ -13,29 +13,36 @@ pub returns-in-Ok-clause-stands : goal.returns-in-Ok-clause-stands
 returns-in-Ok-clause-stands g c =
     let w = g.A.Arith.width c.args.self.now.arith in
     subst (BoardStands w) (sym c.note.ensures)
-    (stands_after w c.args.self.now c.requires.stands c.requires.running c.record.new.self c.record.new.log c.record.new.arith c.in-Ok.ensures.plain_stays
-    c.deref.result.now c.deref.ensures c.args.choice.now c.in-Ok.gone (c.in-Ok.ensures.reached, c.in-Ok.ensures.rescued))
+    (stands_after w c.args.self.now c.requires.stands c.requires.running c.record.new.self c.record.new.log c.record.new.arith
+    c.deref.result.now c.deref.ensures c.in-Ok.ensures.plain_stays c.args.choice.now c.in-Ok.gone (c.in-Ok.ensures.reached, c.in-Ok.ensures.goes, c.in-Ok.ensures.rescued))
 
 pub returns-in-Ok-clause-built : goal.returns-in-Ok-clause-built
-returns-in-Ok-clause-built g c = λ before. stands_built (g.A.Arith.width c.args.self.now.arith) c.note.new.self (returns-in-Ok-clause-stands g c)
+returns-in-Ok-clause-built g c along =
+    let w = g.A.Arith.width c.args.self.now.arith in
+    subst (AreBuilt w) (sym c.note.ensures)
+    (built_after w c.args.self.now c.requires.stands c.requires.running c.record.new.self c.record.new.log c.record.new.arith
+    c.deref.result.now c.deref.ensures c.in-Ok.ensures.plain_stays c.args.choice.now c.in-Ok.gone (c.in-Ok.ensures.reached, c.in-Ok.ensures.goes, c.in-Ok.ensures.rescued) along)
 
 pub returns-in-Ok-clause-recorded : goal.returns-in-Ok-clause-recorded
 returns-in-Ok-clause-recorded g c =
-    records_after (g.A.Arith.width c.args.self.now.arith) c.args.self.now c.requires.stands c.requires.running c.record.new.self c.record.new.log c.record.new.arith c.in-Ok.ensures.plain_stays
-    c.deref.result.now c.deref.ensures c.args.choice.now c.in-Ok.gone c.note.new.self c.answer_of.result c.note.ensures c.answer_of.ensures (c.in-Ok.ensures.reached, c.in-Ok.ensures.rescued)
+    records_after (g.A.Arith.width c.args.self.now.arith) c.args.self.now c.requires.stands c.requires.running c.record.new.self c.record.new.log c.record.new.arith
+    c.deref.result.now c.deref.ensures c.in-Ok.ensures.plain_stays c.args.choice.now c.in-Ok.gone c.note.new.self c.answer_of.result c.note.ensures c.answer_of.ensures
+    (c.in-Ok.ensures.reached, c.in-Ok.ensures.goes, c.in-Ok.ensures.rescued)
 
 pub returns-in-Err-clause-stands : goal.returns-in-Err-clause-stands
 returns-in-Err-clause-stands g c =
-    stands_still (g.A.Arith.width c.args.self.now.arith) c.args.self.now c.requires.stands c.requires.running c.record.new.self c.record.new.log c.record.new.arith c.in-Err.ensures.plain_stays
-    c.deref.result.now c.deref.ensures c.in-Err.ensures.log_kept c.in-Err.ensures.stands
+    refused_stands (g.A.Arith.width c.args.self.now.arith) c.args.self.now c.requires.stands c.requires.running c.record.new.self c.record.new.log c.record.new.arith
+    c.deref.result.now c.deref.ensures c.in-Err.ensures.log_kept c.in-Err.ensures.still
 
 pub returns-in-Err-clause-unmoved : goal.returns-in-Err-clause-unmoved
 returns-in-Err-clause-unmoved g c =
-    unmoved_after (g.A.Arith.width c.args.self.now.arith) c.args.self.now c.requires.stands c.requires.running c.record.new.self c.record.new.log c.record.new.arith c.in-Err.ensures.plain_stays
-    c.deref.result.now c.deref.ensures c.in-Err.ensures.log_kept c.in-Err.ensures.stands
+    refused_unmoved (g.A.Arith.width c.args.self.now.arith) c.args.self.now c.requires.stands c.requires.running c.record.new.self c.record.new.log c.record.new.arith
+    c.deref.result.now c.deref.ensures c.in-Err.ensures.log_kept c.in-Err.ensures.still
 
 pub returns-in-Err-clause-built : goal.returns-in-Err-clause-built
-returns-in-Err-clause-built g c = λ before. stands_built (g.A.Arith.width c.args.self.now.arith) _ (returns-in-Err-clause-stands g c)
+returns-in-Err-clause-built g c =
+    refused_built (g.A.Arith.width c.args.self.now.arith) c.args.self.now c.requires.stands c.requires.running c.record.new.self c.record.new.log c.record.new.arith
+    c.deref.result.now c.deref.ensures c.in-Err.ensures.log_kept c.in-Err.ensures.still
 
 pub returns-in-Err-clause-fault : goal.returns-in-Err-clause-fault
 returns-in-Err-clause-fault g c =

@@ -1,4 +1,4 @@
-use Rattle.std.proofs.Common.{◌≡◌, length, length-append, [], ◌∷◌, Some, None, sym, ◌∙◌, ap, subst}
+use Rattle.std.proofs.Common.{◌≡◌, ◌+◌, length, length-append, [], ◌∷◌, Some, None, sym, ◌∙◌, ap, subst}
 use Rattle.rational.specs.Worked.{settle}
 use Rattle.factor_run.specs.Built.{exchanged}
 use Rattle.lp_model.specs.declared.Entry.TheVariants.{Swap}
@@ -100,3 +100,23 @@ returns-in-Err-clause-refusal g c =
     (λ none. swap_unfollowed w a.inst.now c.requires.well_formed a.log.now mid stands (kept.is_priced ∙ c.requires.priced) a.q enters a.down a.p a.end a.ratio entered c.len-next.result number
     (subst (λ w. settle w (exchanged a.inst.now (after mid.state (Swap a.q a.p a.end)) c.len-next.result mid.factors a.p a.q) ≡ None) c.in_ok-work_values.ensures.width none))
     (c.in-Err.ensures.refusal a.end basis)))
+
+pub returns-in-Ok-clause-followed : goal.returns-in-Ok-clause-followed
+returns-in-Ok-clause-followed g c =
+    let w = g.A.Arith.width c.args.arith.now in
+    let a = c.args in
+    let it = a.self.now in
+    let kept = c.in_ok-work_values.ensures.spared in
+    let mid = c.work_values.new.self in
+    let e = Swap a.q a.p a.end in
+    let made = c.follow.new.self.factors in
+    let stands = spared_iterate w a.inst.now a.log.now it mid kept a.q c.requires.stands in
+    let enters = spared_enters w a.inst.now a.log.now it mid kept a.q c.requires.enters in
+    let entered = spared_entered w a.inst.now a.log.now it mid kept a.q _ c.requires.entered in
+    let basis = swap_basis w a.inst.now c.requires.well_formed a.log.now mid stands (kept.is_priced ∙ c.requires.priced) a.q enters a.down a.p a.end a.ratio entered in
+    let number = c.len-next.ensures ∙ ap (λ l. length l) c.in_ok-push.ensures.ok ∙ length-append a.log.now (e ∷ []) in
+    subst (λ f. settle w (exchanged a.inst.now (after it.state e) (length a.log.now + 1) it.factors a.p a.q) ≡ Some (Some f)) (sym c.take.ensures.factors)
+    (subst (λ n. settle w (exchanged a.inst.now (after it.state e) n it.factors a.p a.q) ≡ Some (Some made)) number
+    (subst (λ f. settle w (exchanged a.inst.now (after it.state e) c.len-next.result f a.p a.q) ≡ Some (Some made)) kept.factors
+    (subst (λ s. settle w (exchanged a.inst.now (after s e) c.len-next.result mid.factors a.p a.q) ≡ Some (Some made)) kept.state
+    (subst (λ w. settle w (exchanged a.inst.now (after mid.state e) c.len-next.result mid.factors a.p a.q) ≡ Some (Some made)) c.in_ok-work_values.ensures.width (c.in-Ok.ensures.followed a.end basis)))))

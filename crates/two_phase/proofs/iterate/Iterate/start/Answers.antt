@@ -1,4 +1,4 @@
-use Rattle.std.proofs.Common.{◌≡◌, None, sym, ◌∙◌, ap, subst, arith}
+use Rattle.std.proofs.Common.{◌≡◌, None, Some, sym, ◌∙◌, ap, subst, arith}
 use Rattle.rational.specs.Worked.{settle}
 use Rattle.lp_run.specs.Solution.{Values}
 use Rattle.lp_run.specs.State.{start_of}
@@ -37,3 +37,11 @@ returns-clause-stands g c =
     (subst (λ w. FactorsFrom w inst (start_of inst) 0 c.in_ok-factors.factors) c.in_ok-values.ensures.width (c.in_ok-factors.ensures.made (start_of inst) basis)))
     (subst (Values inst (start_of inst)) (sym of.values) c.in_ok-values.ensures.values) of.unpriced
     (record { prices = of.prices ∙ count; alpha = of.alpha ∙ count; spike = of.spike ∙ count; spare = of.spare ∙ count; few = omega (arith, c.rows.ensures.few, count) })
+
+pub returns-clause-made : goal.returns-clause-made
+returns-clause-made g c =
+    let w = g.A.Arith.width c.args.arith.now in
+    let inst = c.args.inst.now in
+    let basis = start_basis inst c.basis.result.now (c.basis.ensures ∙ ap (λ s. s.basis) c.in_ok-state.ensures) in
+    let from = subst (λ w. FactorsFrom w inst (start_of inst) 0 c.in_ok-factors.factors) c.in_ok-values.ensures.width (c.in_ok-factors.ensures.made (start_of inst) basis) in
+    subst (λ f. settle w (made_anew inst (start_of inst) 0) ≡ Some (Some f)) (sym c.in_ok-of.ensures.factors) from.made
