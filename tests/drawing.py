@@ -1,4 +1,7 @@
 """Draws decks: by changes of lines, and from nothing."""
+import glob
+import os
+
 from second_reader import BYTES, COLUMNS, ENTRIES, FIELDS, LINE, ROWS, TOKEN
 
 PIECES = [
@@ -217,3 +220,33 @@ def change_free(lines, chance):
         lines[here] = lines[here].ljust(chance.choice((LINE - 1, LINE, 10))) + bytes([chance.choice(b"\t\x7f\rX")])
     else:
         lines.insert(here, b" " * chance.choice((0, 61, LINE, LINE + 1)))
+
+
+def decks_to_change():
+    """The lines of the decks of examples/ and tests/worked."""
+    here = os.path.dirname(os.path.dirname(os.path.abspath(__file__)))
+    decks = []
+    for path in sorted(glob.glob(os.path.join(here, "examples", "*.mps")) + glob.glob(os.path.join(here, "tests", "worked", "*.mps"))):
+        # glpsol may go round in circles on a deck that was made for that
+        if "cycling" not in path:
+            with open(path, "rb") as deck:
+                decks.append(deck.read().split(b"\n"))
+    return decks
+
+
+def drawn(chance, decks, number):
+    """The text of the deck of this number."""
+    if number % 2 == 0:
+        lines = list(chance.choice(decks))
+        for _ in range(chance.choice((1, 1, 1, 2, 2, 3, 5))):
+            change(lines, chance)
+        return b"\n".join(lines)
+    if number % 10 == 9:
+        return b"\n".join(vast(chance))
+    lines = Draw(chance, chance.random() < 0.3).lines()
+    limits = ("rows", "columns", "entries", "bytes")
+    if number < 2 * len(limits):
+        lines = past(limits[number // 2], lines)
+    elif chance.random() < 0.03:
+        lines = [line for line in lines if line != card("N", "COST") and b"COST" not in line and b"FREE" not in line]
+    return b"\n".join(lines)

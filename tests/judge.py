@@ -12,9 +12,10 @@ from second_solver import WITHOUT_TABLE, Overflow, Spent, report_text, solve
 from second_writer import Wide, deck_text
 
 HERE = os.path.dirname(os.path.dirname(os.path.abspath(__file__)))
-LP = os.path.join(HERE, "crates", "lp_main", "out", "lp_main")
-# What is asked of the program, in turn: both versions of the report, with the log and without.
-WORDS = [["solve", "--workers", "0", *log, *report] for log in ([], ["--log"]) for report in (["--report", "1"], [])]
+# The built program; or the one that the variable LP names, as that of `./try`, which nothing builds then.
+LP = os.environ.get("LP") or os.path.join(HERE, "crates", "lp_main", "out", "lp_main")
+# What is asked of the program, in turn: both versions of the report, with the log and without, by workers and without.
+WORDS = [["solve", *workers, *log, *report] for workers in (["--workers", "0"], []) for log in ([], ["--log"]) for report in (["--report", "1"], [])]
 # One text in so many is solved with a budget of so few moves.
 EVERY, FEW = 8, 2
 GLPSOL = shutil.which("glpsol")
@@ -22,6 +23,8 @@ GLPSOL = shutil.which("glpsol")
 
 def make_sure():
     """Builds the program, or ends this run with the build's status."""
+    if os.environ.get("LP"):
+        return
     built = subprocess.run([os.path.join(HERE, "tools", "build")], stdin=subprocess.DEVNULL)
     if built.returncode:
         sys.exit(built.returncode)
@@ -51,9 +54,18 @@ def free_text(deck):
     return "\n".join([*lines, "ENDATA", ""])
 
 
+def is_moderate(deck):
+    """Whether all numbers of a deck are such that glpsol takes them as they are: a cost of 3e-18 is 0 to it, and so is a reduced cost."""
+    numbers = [row.right for row in deck.rows] + [column.cost for column in deck.columns]
+    numbers += [value for column in deck.columns for value in column.entries.values()]
+    numbers += [end for column in deck.columns for end in (column.lower, column.upper) if end is not None]
+    return all(value == 0 or 1e-6 <= abs(value) <= 1e9 for value in numbers)
+
+
 def objective_by_glpsol(deck):
-    """The best objective that glpsol finds, as it prints it; or none, where it is not there, does not end soon, or does not take the deck as optimal."""
-    if GLPSOL is None or not deck.rows or not deck.columns:
+    """The best objective that glpsol finds, as it prints it; or none, where it is not there, does not end soon, does not take the deck as optimal, or where a
+    number is too small or too great for it."""
+    if GLPSOL is None or not deck.rows or not deck.columns or not is_moderate(deck):
         return None
     with tempfile.TemporaryDirectory() as room:
         with open(f"{room}/deck", "w", encoding="ascii") as text:

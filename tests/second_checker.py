@@ -317,26 +317,32 @@ def check(deck, report, width=WIDTH):
         walk.basis(report)
 
 
-def answer(text, greatest=False, free=False, fails=False):
-    """The status of a check of a deck and the report behind it, the line on standard output, and the one on standard error."""
+def verdict(deck, report):
+    """The status of a check of a report, the line on standard output, and the one on standard error."""
+    try:
+        check(deck, report)
+    except Broken as rule:
+        return 1, f"REFUSED {rule}", ""
+    except Unfit as rule:
+        return 6, "", f"lp: check overflow at {rule}"
+    return 0, f"ACCEPTED {report.outcome}", ""
+
+
+def answer(text, greatest=False, free=False, fails=False, judge=verdict):
+    """What a judge answers to a deck and the report behind it: the status, the line on standard output, and the one on standard error."""
     try:
         deck = read(text, free, fails)
         if greatest:
             deck.sense = -1
         own = text.split(b"\n", deck.last_line)[deck.last_line :]
         report = parse(deck, own[0] if own else b"", fails)
-        check(deck, report)
     except Fault as fault:
         return 3, "", str(fault)
     except Failed as failed:
         return 4, "", str(failed)
     except Flaw as flaw:
         return 3, "", f"lp: report line {deck.last_line + flaw.args[0]}: {flaw.args[1]}"
-    except Broken as rule:
-        return 1, f"REFUSED {rule}", ""
-    except Unfit as rule:
-        return 6, "", f"lp: check overflow at {rule}"
-    return 0, f"ACCEPTED {report.outcome}", ""
+    return judge(deck, report)
 
 
 def main():

@@ -13,7 +13,8 @@ use Rattle.two_phase.specs.Tally.{HasRoundWorked, HasWorked}
 use Rattle.two_phase.proofs.Tallies.{whole_work}
 use Rattle.factor_run.specs.Bound.{making_work, solve_work}
 use Rattle.factor_run.specs.Calm.{IsCalm}
-use Rattle.factor_run.proofs.Calmness.{no_unfit_choice, no_unfit_total}
+use Rattle.factor_run.proofs.Calmness.{no_unfit_choice, no_unfit_total, stops_unfit}
+use Rattle.price_round.specs.Rounds.{NoneUnfit}
 use Rattle.two_phase.specs.Board.{AreBuilt, BoardStands, HasGivenUpFor, HasNoCause, IsChoiceFor, IsClosingCause, IsRecordCause, IsSameRun, IsStartCause, IsTicketCause, state_of}
 use Rattle.two_phase.specs.Modes.{mode_of}
 use Rattle.two_phase.specs.declared.standing.Mode.TheVariants as mode
@@ -118,6 +119,10 @@ module _ {A : Type 0} (w : ℕ) (b : Board A) where
     pub no_cause : AreBuilt w b → (IsPlain b.ground → ⊥) → HasNoCause w b
     no_cause along factors = calm_ground w b.inst.value calm b.log b.ground h.stands along factors
 
+    -- no column of an exact ticket is an unfit stopper
+    pub none_unfit : (ticket : Ticket) → IsExactTicket b.inst.value (state_of b) ticket → NoneUnfit w b.inst.value ticket
+    none_unfit ticket exact = stops_unfit w b.inst.value calm b.log (state_of b) (reached_by w b.inst.value b.log b.ground h.stands) ticket exact
+
     pub calm_choice : (ticket : Ticket) (choice : Choice) → IsExactTicket b.inst.value (state_of b) ticket → IsChoiceOf w b.inst.value ticket choice → choice.unfit ≡ false
     calm_choice ticket choice exact is = no_unfit_choice w b.inst.value calm b.log (state_of b) (reached_by w b.inst.value b.log b.ground h.stands) choice (ticket, exact, is)
 
@@ -129,8 +134,8 @@ module _ {A : Type 0} (w : ℕ) (b : Board A) where
     calm_close before later (board.Stale n) cause = absurd cause
     calm_close before later (board.Ended s) cause = absurd cause
 
-    pub calm_chosen : (choice : Choice) → IsChoiceFor w b choice → choice.unfit ≡ false
-    calm_chosen choice (front, later, s, is, number, run, exact) = no_unfit_choice w b.inst.value calm front s run choice exact
+    pub calm_chosen : (choice : Choice) → IsChoiceFor w b.inst.value (length b.log) choice → choice.unfit ≡ false
+    calm_chosen choice (below, s, (front, run, number), exact) = no_unfit_choice w b.inst.value calm front s run choice exact
 
 -- after a ticket
 module _ {A : Type 0} (w w' : ℕ) (width : w' ≡ w) (old asked : Board A) (h : BoardStands w old) (calm : IsCalm w old.inst.value) (along : AreBuilt w old) (factors : IsPlain old.ground → ⊥)
@@ -144,7 +149,7 @@ module _ {A : Type 0} (w w' : ℕ) (width : w' ≡ w) (old asked : Board A) (h :
       no_cause w' asked (subst (λ w. BoardStands w asked) (sym width) h') calm_there (subst (λ w. AreBuilt w asked) (sym width) along')
       (calm_asked w old (no_cause w old h calm along factors) asked rescued)
 
-  pub asked_fits : (choice : Choice) → IsChoiceFor w' asked choice → choice.unfit ≡ false
+  pub asked_fits : (choice : Choice) → IsChoiceFor w' asked.inst.value (length asked.log) choice → choice.unfit ≡ false
   asked_fits choice chosen = calm_chosen w' asked (subst (λ w. BoardStands w asked) (sym width) h') calm_there choice chosen
 
 -- a round on a board of a run that began with the first one

@@ -1,3 +1,5 @@
 pub mod Complete
 pub mod Rounds
 pub mod Calms
+pub mod CalmRounds
+pub mod Looping

@@ -1,5 +1,5 @@
 -- A solve by rounds on a board: what is asked of each, why it stops, and that it is short.
-use Rattle.std.proofs.Common.{◌≡◌, ℕ, ◌+◌, ◌-◌, ◌*◌, ◌<◌, inl, inr, [], ◌∷◌, ◌++◌, Result, Ok, Err, IfErr, length, append-nil, refl, sym, ◌∙◌, ap, subst, arith}
+use Rattle.std.proofs.Common.{◌≡◌, ℕ, ◌+◌, ◌-◌, ◌*◌, ◌<◌, inl, inr, [], ◌∷◌, ◌++◌, Result, Ok, Err, IfErr, length, refl, sym, ◌∙◌, ap, subst, arith}
 use Rattle.lp_model.specs.declared.Entry.{Entry}
 use Rattle.lp_run.specs.Instance.{Instance}
 use Rattle.lp_run.specs.Run.{IsSpent}
@@ -29,9 +29,9 @@ module _ {A : Type 0} (w : ℕ) (b : Board A) (h : BoardStands w b) where
   pub ticket_of : (ticket : Ticket) → IsExactTicket b.inst.value (state_of b) ticket → IsTicketOf b.inst.value ticket
   ticket_of ticket exact = exact_ticket w b.inst.value h.well_formed b.log b.ground h.stands ticket exact
 
-  pub choice_for : (ticket : Ticket) (choice : Choice) → IsExactTicket b.inst.value (state_of b) ticket → ticket.number ≡ length b.log → IsChoiceOf w b.inst.value ticket choice → IsChoiceFor w b choice
+  pub choice_for : (ticket : Ticket) (choice : Choice) → IsExactTicket b.inst.value (state_of b) ticket → ticket.number ≡ length b.log → IsChoiceOf w b.inst.value ticket choice → IsChoiceFor w b.inst.value (length b.log) choice
   choice_for ticket choice exact number is =
-      (b.log, [], state_of b, sym (append-nil b.log), sym (is.number ∙ number), reached_by w b.inst.value b.log b.ground h.stands, (ticket, exact, is))
+      (omega (arith, is.number, number), state_of b, (b.log, reached_by w b.inst.value b.log b.ground h.stands, sym (is.number ∙ number)), (ticket, exact, is))
 
   -- ── why it stops ──
 
@@ -91,15 +91,15 @@ ended_cause w b h inst is budget same s there (Err f) told = subst (λ i. IsCaus
 -- a ticket of a board whose mode may have changed since, and its choice
 module _ {A : Type 0} (w : ℕ) (old new : Board A) (h : BoardStands w new) (same : IsSameRun old new) (unmoved : IsUnmoved old new) (ticket : Ticket)
     (asks : Asks old.inst.value old.log new.ground ticket) (i : Instance) (is : i ≡ new.inst.value) where
-  exact_now : IsExactTicket new.inst.value (state_of new) ticket
+  pub exact_now : IsExactTicket new.inst.value (state_of new) ticket
   exact_now = subst (λ a. IsExactTicket a.value (state_of new) ticket) (sym same.instance) asks.exact
 
   pub asked : IsTicketOf i ticket
   asked = subst (λ i. IsTicketOf i ticket) (sym is) (ticket_of w new h ticket exact_now)
 
-  pub chosen_for : (u v : ℕ) → u ≡ w → v ≡ w → (choice : Choice) → IsChoiceOf u i ticket choice → IsChoiceFor v new choice
+  pub chosen_for : (u v : ℕ) → u ≡ w → v ≡ w → (choice : Choice) → IsChoiceOf u i ticket choice → IsChoiceFor v new.inst.value (length new.log) choice
   chosen_for u v width there choice chosen =
-      subst (λ v. IsChoiceFor v new choice) (sym there)
+      subst (λ v. IsChoiceFor v new.inst.value (length new.log) choice) (sym there)
       (choice_for w new h ticket choice exact_now (asks.number ∙ ap length (sym unmoved.log)) (subst (λ u. IsChoiceOf u new.inst.value ticket choice) width (subst (λ i. IsChoiceOf u i ticket choice) is chosen)))
 
 -- no board is made

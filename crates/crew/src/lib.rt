@@ -10,13 +10,24 @@
 //! of unfit results stays, only a spent budget or want of memory refuses, and at most `solve_work` products and quotients
 //! are worked, less one for each stored entry, which is left to the making of the instance.
 //!
-//! It stands on `two_phase` for the board, whose rounds it makes, on `bland_ratio` for choices, on `bland_laws` for the end of
-//! runs, and on `instance_model` and `exact_frac`.
+//! [`solve`] answers the same with each ticket priced by so many workers, for every number of them and every order of what
+//! they do: they are the seats of a round of `price_round`, each in a thread where its columns are worth it, and the round's
+//! choice is that of one thread. On a calm instance the count of unfit results stays, and only a spent budget or want of memory
+//! refuses. It makes no lock, and ends where its [`Probe`] does, which is called at its [`Spot`]s and may hold the thread that
+//! calls it; [`Silent`] does nothing. Nothing is proved of how much it works or how many threads it makes.
+//!
+//! It stands on `two_phase` for the board, whose rounds it makes, on `bland_ratio` and `price_round` for choices, on `bland_laws`
+//! for the end of runs, and on `instance_model` and `exact_frac`. Its tests are the program's cases and `tests_round`.
 #![tactic(auto)]
 
+mod driving;
 mod faults;
+mod pricing;
+mod probe;
 mod solving;
 
+pub use driving::solve;
 pub use faults::CrewFault;
+pub use probe::{Probe, Silent, Spot};
 pub use solving::solve_alone;
 pub use two_phase::Closed;

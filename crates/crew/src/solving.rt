@@ -95,7 +95,11 @@ fn go_on<R: Threads + Sync, A: Arith>(
 }
 
 // Closes a board whose run has ended. Its arithmetic is absorbed.
-fn close<A: Arith>(alloc: Global, board: Board<A>, arith: &mut A) -> Result<Closed, CrewFault>
+pub(crate) fn close<A: Arith>(
+    alloc: Global,
+    board: Board<A>,
+    arith: &mut A,
+) -> Result<Closed, CrewFault>
     requires stands { BoardStands (A.width board.arith) board }
     requires ended { HasEnded board }
     requires width { A.width board.arith ≡ A.width arith.old }
@@ -193,7 +197,7 @@ fn round<R: Threads + Sync, A: Arith>(
 }
 
 // The ticket of the board's state.
-fn ask<R: Threads + Sync, A: Arith>(
+pub(crate) fn ask<R: Threads + Sync, A: Arith>(
     rt: &R,
     alloc: Global,
     board: &mut Board<A>,
@@ -222,7 +226,7 @@ fn ask<R: Threads + Sync, A: Arith>(
 }
 
 // Takes in a choice of the board's own number.
-fn take<R: Threads + Sync, A: Arith>(
+pub(crate) fn take<R: Threads + Sync, A: Arith>(
     rt: &R,
     alloc: Global,
     board: &mut Board<A>,
@@ -230,7 +234,7 @@ fn take<R: Threads + Sync, A: Arith>(
 ) -> Result<Recorded, CrewFault>
     requires stands { BoardStands (A.width board.old.arith) board.old }
     requires running { standing_on board.old ≡ Standing.Running }
-    requires exact { IsChoiceFor (A.width board.old.arith) board.old choice }
+    requires exact { IsChoiceFor (A.width board.old.arith) board.old.inst.value (length board.old.log) choice }
     requires number { choice.number ≡ length board.old.log }
     ensures stands { BoardStands (A.width board.old.arith) board.new }
     ensures same { IsSameRun board.old board.new }
@@ -252,7 +256,7 @@ fn take<R: Threads + Sync, A: Arith>(
 }
 
 // What the standing at the end of a run comes to.
-fn end_of(standing: Standing, budget: u64) -> Result<(), CrewFault>
+pub(crate) fn end_of(standing: Standing, budget: u64) -> Result<(), CrewFault>
     requires { standing ≢ Standing.Running }
     ensures within { OnOk result (standing ≢ Standing.Spent) }
     ensures spent { IfErr result (λ fault. (fault ≡ CrewFault.Budget budget) × (standing ≡ Standing.Spent)) }
@@ -265,7 +269,7 @@ fn end_of(standing: Standing, budget: u64) -> Result<(), CrewFault>
 }
 
 // The refusal of a solve for one of a board.
-fn fault_of(fault: BoardFault) -> CrewFault
+pub(crate) fn fault_of(fault: BoardFault) -> CrewFault
     requires { IsHandedOn fault }
     ensures { IsFaultFor fault result }
 {

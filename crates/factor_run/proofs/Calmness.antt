@@ -98,7 +98,8 @@ module _ (w : ℕ) (inst : Instance) (calm : IsCalm w inst) where
         total_kept (length log) inst.constant _ (totals_kept (length log) (λ j. (structural inst j).cost) (at (point inst s β)) (upto (structural_count inst)) inst.constant) in
         all_or_first w (without_table vs) here (calm.steps log s vs run (inr (inr (inl (y, β, ends, refl))))) (ap (first_unfit w) kept ∙ unfit)
 
-    stops_unfit : (ticket : Ticket) → IsExactTicket inst s ticket → (j : ℕ) → j < column_count inst → Stops w inst ticket j true → ⊥
+    -- no column of an exact ticket is an unfit stopper
+    pub stops_unfit : (ticket : Ticket) → IsExactTicket inst s ticket → (j : ℕ) → j < column_count inst → Stops w inst ticket j true → ⊥
     stops_unfit ticket exact j below (looked, unfit) = by ticket.pay exact.exact unfit
       where
         there : SolvesFit w inst s (settled-factors inst w log s run (calm.factors log s run)).0

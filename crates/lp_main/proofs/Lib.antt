@@ -11,3 +11,4 @@ pub mod Sizes
 pub mod LastStates
 pub mod Behind
 pub mod Judging
+pub mod Audits

@@ -21,7 +21,7 @@ use Rattle.lp_main.specs.Ends.{IsCause, MayReply}
 use Rattle.lp_main.specs.FaultLines.{fault_line}
 use Rattle.lp_main.specs.Refusal.{line_of, status_of_refusal}
 use Rattle.lp_main.specs.Reply.{gives, refuses}
-use Rattle.lp_main.specs.Runs.{MustAnswer, MustAnswerTo, MustLayOut, MustSolve}
+use Rattle.lp_main.specs.Runs.{MustAnswer, MustAnswerTo, MustAudit, MustLayOut, MustSolve}
 use Rattle.lp_main.specs.Solves.{IsShort}
 use Rattle.lp_main.specs.Summaries.{summary_budget}
 use Rattle.lp_main.specs.World.{Stream}
@@ -76,6 +76,8 @@ module _ (w : ℕ) (Said : List ℕ → Type 0) where
   must_memory (task.Deck form) None = tt
   must_memory (task.Deck form) (Some x) = of_memory Said (λ d. MustLayOut (deck_text form d) status.Memory Said) (reading_of form x) (λ d. without_memory (deck_text form d))
   must_memory (task.Make n) text = λ has. inl (inr refl)
+  must_memory (task.Audit form) None = tt
+  must_memory (task.Audit form) (Some x) = of_memory Said (λ d. MustAudit form w x status.Memory) (reading_of form x) (λ d no_flaw fits. inr (inr refl))
 
   -- what was asked for was written
   pub must_give : (t : Task) (text : Option (List ℕ)) (a : Answer) (bytes : List ℕ) → MayReply (Some t) w text (gives a bytes) → MustAnswer t w text (status_of_answer a) Said
@@ -93,6 +95,11 @@ module _ (w : ℕ) (Said : List ℕ → Type 0) where
   must_give (task.Deck form) (Some x) answer.Refused bytes h = absurd h
   must_give (task.Make n) text answer.Done bytes h = λ has. inl (inl refl)
   must_give (task.Make n) text answer.Refused bytes h = absurd h
+  must_give (task.Audit form) None a bytes h = tt
+  must_give (task.Audit form) (Some x) answer.Done bytes (d, report, judgement, tells, audited, is, line) =
+      of_deck Said (λ d. MustAudit form w x status.Done) (reading_of form x) d tells.behind.line status.Done tells.behind.deck (λ no_flaw fits. inl refl)
+  must_give (task.Audit form) (Some x) answer.Refused bytes (d, report, judgement, tells, audited, is, line) =
+      of_deck Said (λ d. MustAudit form w x status.Refused) (reading_of form x) d tells.behind.line status.Refused tells.behind.deck (λ no_flaw fits. inr (inl refl))
 
   -- the refusal was replied
   must_refuse : (t : Task) (text : Option (List ℕ)) (r : Refusal) → MayReply (Some t) w text (refuses r) → Said (line_of r) → MustAnswer t w text (status_of_refusal r) Said
@@ -124,6 +131,16 @@ module _ (w : ℕ) (Said : List ℕ → Type 0) where
   must_refuse (task.Make n) text (refusal.Overflow here) h says = overflowed summary_budget w (transport n) here h
   must_refuse (task.Make n) text (refusal.Budget k) h says = over_budget summary_budget w (transport n) k h
   must_refuse (task.Make n) text other h says = absurd h
+  must_refuse (task.Audit form) None r h says = tt
+  must_refuse (task.Audit form) (Some x) (refusal.Deck fault) h says =
+      let k = named fault (HasFault form x) h in of_fault Said (λ d. MustAudit form w x status.BadInput) (reading_of form x) k.0 k.1 (subst Said k.2 says)
+  must_refuse (task.Audit form) (Some x) (refusal.Report number flaw) h says =
+      let (d, behind, has, k, is, first) = h in
+      of_deck Said (λ d. MustAudit form w x status.BadInput) (reading_of form x) d has.line status.BadInput has.deck (λ no_flaw fits. absurd (no_flaw number flaw h))
+  must_refuse (task.Audit form) (Some x) (refusal.Overflow here) h says =
+      let (d, report, tells, cause) = h in
+      of_deck Said (λ d. MustAudit form w x status.Overflow) (reading_of form x) d tells.behind.line status.Overflow tells.behind.deck (λ no_flaw fits. absurd (fits here h))
+  must_refuse (task.Audit form) (Some x) other h says = absurd h
 
   -- the refusal was said; A and B are said of a failed read and of a failed write
   pub must_refuse_by : (t : Task) (input input' : Stream) (old new : Option (List ℕ)) (r : Refusal) (A B : Type 0) → IsCause (Some t) w input input' old new r → Said (line_of r)

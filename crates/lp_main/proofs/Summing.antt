@@ -28,7 +28,7 @@ use Rattle.lp_main.specs.World.{Stream}
 
 -- what is asked of the run of a made deck
 abbrev pub all_moves : Asked
-all_moves = record { form = Fixed; budget = summary_budget; log = true; version = 1 }
+all_moves = record { form = Fixed; workers = 0; budget = summary_budget; log = true; version = 1 }
 
 -- a deck that has a feasible point, and none with an objective below 0, has come to an optimum
 pub has_optimum : (n : ℕ) (d : Deck) → d ≡ transport n → (x : List ℚ) × IsFeasible d x → ((x : List ℚ) → IsFeasible d x → zero_ℚ ≤ℚ objective d x)

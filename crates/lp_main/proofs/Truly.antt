@@ -1,5 +1,5 @@
 -- From what is written to what is true of the deck.
-use Rattle.std.proofs.Common.{◌≢◌, ℕ, List, Option, Some, None, sym, subst}
+use Rattle.std.proofs.Common.{◌≡◌, ◌≢◌, ℕ, List, Option, Some, None, sym, subst}
 use Rattle.io_ends.specs.Bytes.{Appends}
 use Rattle.lp_model.specs.Basis.{Basis}
 use Rattle.lp_model.specs.Deck.{Deck}
@@ -15,6 +15,10 @@ use Rattle.lp_main.specs.declared.status.Status.{Status}
 use Rattle.lp_main.specs.declared.status.Status.TheVariants as status
 use Rattle.lp_main.specs.declared.words.Task.{Task}
 use Rattle.lp_main.specs.declared.words.Task.TheVariants as task
+use Rattle.lp_text.specs.Report.{Report}
+use Rattle.run_audit.specs.declared.answer.Audit.{Audit}
+use Rattle.run_audit.specs.declared.answer.Audit.TheVariants as audit
+use Rattle.lp_main.specs.Audits.{IsAudited, answer_of_audit}
 use Rattle.lp_main.specs.Codes.{status_of_answer}
 use Rattle.lp_main.specs.Ends.{Writes}
 use Rattle.lp_main.specs.Solves.{stated}
@@ -39,6 +43,14 @@ held : (d : Deck) (o : Outcome) (basis : Option Basis) → Holds d o basis → I
 held d o None h = is_true d o (proved d o h)
 held d o (Some b) h = is_true d o (proved d o h.0)
 
+-- what an audit finds to be the run
+is_yes : (judgement : Audit) (a : Answer) → a ≡ answer_of_audit judgement → status_of_answer a ≡ status.Done → status_of_answer (answer_of_audit judgement) ≡ status.Done
+is_yes judgement a is done = subst (λ a. status_of_answer a ≡ status.Done) is done
+
+audited_truly : (d : Deck) (report : Report) (judgement : Audit) → IsAudited d report judgement → status_of_answer (answer_of_audit judgement) ≡ status.Done → IsTrue d report.outcome
+audited_truly d report (audit.Yes k) h done = h.1
+audited_truly d report other h done = absurd (cc done)
+
 module _ (w : ℕ) (old new : Option (List ℕ)) where
   pub truly_done : (what : Option Task) (text : Option (List ℕ)) (a : Answer) → Writes what w text old new a → IsDoneTruly what text old new (status_of_answer a)
   truly_done None text a gives = tt
@@ -51,6 +63,8 @@ module _ (w : ℕ) (old new : Option (List ℕ)) where
   truly_done (Some (task.Check form)) (Some t) answer.Refused gives = λ done. absurd (cc done)
   truly_done (Some (task.Deck form)) text a gives = tt
   truly_done (Some (task.Make n)) text a gives = tt
+  truly_done (Some (task.Audit form)) None a gives = λ done. tt
+  truly_done (Some (task.Audit form)) (Some t) a (bytes, (d, report, judgement, tells, audited, is, line), appended) = λ done. (d, report, tells, audited_truly d report judgement audited (is_yes judgement a is done))
 
   -- a refusal is not done
   pub truly_refused : (what : Option Task) (text : Option (List ℕ)) (s : Status) → s ≢ status.Done → IsDoneTruly what text old new s
@@ -59,3 +73,4 @@ module _ (w : ℕ) (old new : Option (List ℕ)) where
   truly_refused (Some (task.Check form)) text s other = λ done. absurd (other done)
   truly_refused (Some (task.Deck form)) text s other = tt
   truly_refused (Some (task.Make n)) text s other = tt
+  truly_refused (Some (task.Audit form)) text s other = λ done. absurd (other done)

@@ -94,23 +94,23 @@ unserved_fits what refusal.Usage is = λ e. cc
 unserved_fits what refusal.Memory is = λ e. cc
 unserved_fits what other is = absurd is
 
-module _ (w : ℕ) (d : Deck) (old new : Counts) (unfit : IsCalm w (instance_of d) → new.unfit ≡ old.unfit) where
-  pub calmly_refused : (r : Refusal) → (IsCalm w (instance_of d) → status_of_refusal r ≢ status.Overflow) → WorksCalmly w d old new (status_of_refusal r)
-  calmly_refused r fits calm = (unfit calm, fits calm, λ done. absurd (not_done r done))
+module _ (workers w : ℕ) (d : Deck) (old new : Counts) (unfit : IsCalm w (instance_of d) → new.unfit ≡ old.unfit) where
+  pub calmly_refused : (r : Refusal) → (IsCalm w (instance_of d) → status_of_refusal r ≢ status.Overflow) → WorksCalmly workers w d old new (status_of_refusal r)
+  calmly_refused r fits calm = (unfit calm, fits calm, λ alone done. absurd (not_done r done))
 
   pub calmly_handed_on : (result : Result Answer Refusal) (e : Refusal) → IsErrAnd result (λ r. r ≡ e) → (IsCalm w (instance_of d) → status_of_refusal e ≢ status.Overflow)
-      → WorksCalmly w d old new (status_of_end result)
+      → WorksCalmly workers w d old new (status_of_end result)
   calmly_handed_on (Ok a) e is fits = absurd is
   calmly_handed_on (Err r) e is fits = calmly_refused r (subst (λ r. IsCalm w (instance_of d) → status_of_refusal r ≢ status.Overflow) (sym is) fits)
 
-  pub calmly_done : (IsCalm w (instance_of d) → IsBounded d old.work new.work) → WorksCalmly w d old new status.Done
-  calmly_done bound calm = (unfit calm, λ e. cc, λ done. bound calm)
+  pub calmly_done : (workers ≡ 0 → IsCalm w (instance_of d) → IsBounded d old.work new.work) → WorksCalmly workers w d old new status.Done
+  calmly_done bound calm = (unfit calm, λ e. cc, λ alone done. bound alone calm)
 
 -- what holds of the deck that was read holds of the deck that the text is
-pub of_text : (asked : Asked) (w : ℕ) (text : Option (List ℕ)) (d : Deck) (old new : Counts) (s : Status) → IfSome text (λ t. IsRead asked.form t d) → WorksCalmly w d old new s
+pub of_text : (asked : Asked) (w : ℕ) (text : Option (List ℕ)) (d : Deck) (old new : Counts) (s : Status) → IfSome text (λ t. IsRead asked.form t d) → WorksCalmly asked.workers w d old new s
     → Works (Some (task.Solve asked)) w text old new s
 of_text asked w None d old new s read works = tt
-of_text asked w (Some t) d old new s (line, read) works = λ d' line' read'. subst (λ d. WorksCalmly w d old new s) (same_deck d d' line line' (sym read ∙ read')) works
+of_text asked w (Some t) d old new s (line, read) works = λ d' line' read'. subst (λ d. WorksCalmly asked.workers w d old new s) (same_deck d d' line line' (sym read ∙ read')) works
   where
     same_deck : (d d' : Deck) (k line : ℕ) → is_deck d k ≡ is_deck d' line → d ≡ d'
     same_deck d d' k line e = cc
@@ -119,10 +119,11 @@ of_text asked w (Some t) d old new s (line, read) works = λ d' line' read'. sub
 pub nothing_worked : (what : Option Task) (w : ℕ) (text : Option (List ℕ)) (c : Counts) (r : Refusal) → status_of_refusal r ≢ status.Overflow → Works what w text c c (status_of_refusal r)
 nothing_worked None w text c r fits = tt
 nothing_worked (Some (task.Solve asked)) w None c r fits = tt
-nothing_worked (Some (task.Solve asked)) w (Some t) c r fits = λ d line read. calmly_refused w d c c (λ calm. refl) r (λ calm. fits)
+nothing_worked (Some (task.Solve asked)) w (Some t) c r fits = λ d line read. calmly_refused asked.workers w d c c (λ calm. refl) r (λ calm. fits)
 nothing_worked (Some (task.Check form)) w text c r fits = tt
 nothing_worked (Some (task.Deck form)) w text c r fits = tt
-nothing_worked (Some (task.Make n)) w text c r fits = calmly_refused w (transport n) c c (λ calm. refl) r (λ calm. fits)
+nothing_worked (Some (task.Make n)) w text c r fits = calmly_refused 0 w (transport n) c c (λ calm. refl) r (λ calm. fits)
+nothing_worked (Some (task.Audit form)) w text c r fits = tt
 
 pub nothing_handed_on : (what : Option Task) (w : ℕ) (text : Option (List ℕ)) (c : Counts) (result : Result Answer Refusal) (e : Refusal) → status_of_refusal e ≢ status.Overflow
     → IsErrAnd result (λ r. r ≡ e) → Works what w text c c (status_of_end result)
@@ -142,7 +143,8 @@ pub said_instead : (what : Option Task) (w : ℕ) (text : Option (List ℕ)) (ol
 said_instead None w text old new s s' other is works = tt
 said_instead (Some (task.Solve asked)) w None old new s s' other is works = tt
 said_instead (Some (task.Solve asked)) w (Some t) old new s s' other is works =
-    λ d line read calm. let h = works d line read calm in (h.0, fits_too s s' is h.1, λ done. absurd (other done))
+    λ d line read calm. let h = works d line read calm in (h.0, fits_too s s' is h.1, λ alone done. absurd (other done))
 said_instead (Some (task.Check form)) w text old new s s' other is works = tt
 said_instead (Some (task.Deck form)) w text old new s s' other is works = tt
-said_instead (Some (task.Make n)) w text old new s s' other is works = λ calm. let h = works calm in (h.0, fits_too s s' is h.1, λ done. absurd (other done))
+said_instead (Some (task.Make n)) w text old new s s' other is works = λ calm. let h = works calm in (h.0, fits_too s s' is h.1, λ alone done. absurd (other done))
+said_instead (Some (task.Audit form)) w text old new s s' other is works = tt

@@ -1,5 +1,5 @@
 -- What is replied to a report behind a deck that is to be checked; w is the width of the arithmetic.
-use Rattle.std.specs.Prelude.{◌≡◌, ℕ, ◌++◌, List, [], ◌∷◌, drop, Option, Some, IfSome, Ok, Err}
+use Rattle.std.specs.Prelude.{◌≡◌, ◌⊎◌, ℕ, ◌++◌, List, [], ◌∷◌, drop, Option, Some, IfSome, Ok, Err}
 use Rattle.lp_model.specs.Deck.{Deck}
 use Rattle.lp_text.specs.Lines.{Line, lines_of}
 use Rattle.lp_text.specs.Report.{Report}
@@ -19,7 +19,7 @@ use Rattle.cert_check.specs.Walk.{walk}
 use Rattle.lp_main.specs.declared.status.Answer.{Answer}
 use Rattle.lp_main.specs.declared.status.Answer.TheVariants as answer
 use Rattle.lp_main.specs.declared.refusal.Refusal.TheVariants as refusal
-use Rattle.lp_main.specs.FirstFaults.{IsTextFault}
+use Rattle.lp_main.specs.FirstFaults.{IsDeckCutOff, IsTextFault}
 use Rattle.lp_main.specs.Reply.{Reply, gives, refuses}
 use Rattle.lp_main.specs.Verdicts.{accepted_line, refused_line, rule_name}
 
@@ -70,6 +70,10 @@ pub record IsReportCutOff (form : Form) (left : Option (List ℕ)) (faults fault
   pub expected : List Expected
   pub met : Reaches d (version ∷ []) (bytes_of lines) expected
   pub fails : FailsToRead kept (sizes lines) report_limit left_behind left faults faults'
+
+-- a read failed in the deck, or behind it
+abbrev pub IsBothCutOff : Form → Option (List ℕ) → ℕ → ℕ → List ℕ → Type 0
+IsBothCutOff form left faults faults' text = IsDeckCutOff form left text ⊎ IsReportCutOff form left faults faults' text
 
 -- the verdict on the report; the deck's first fault, or the report's first flaw; or the first sum of a rule that does not fit w bits
 abbrev pub Checks : Form → ℕ → Option (List ℕ) → Reply → Type 0

@@ -10,7 +10,8 @@ use Rattle.lp_main.specs.declared.status.Status.{Status}
 use Rattle.lp_main.specs.declared.status.Status.TheVariants as status
 use Rattle.lp_main.specs.declared.words.Task.{Task}
 use Rattle.lp_main.specs.declared.words.Task.TheVariants as task
-use Rattle.lp_main.specs.Checks.{Checks, IsReportCutOff}
+use Rattle.lp_main.specs.Audits.{Audits}
+use Rattle.lp_main.specs.Checks.{Checks, IsBothCutOff}
 use Rattle.lp_main.specs.Codes.{status_of_answer}
 use Rattle.lp_main.specs.FirstFaults.{IsDeckCutOff}
 use Rattle.lp_main.specs.Layouts.{LaysOut}
@@ -31,27 +32,35 @@ MayReply (Some (task.Solve asked)) w text reply = Solves asked w text reply
 MayReply (Some (task.Check form)) w text reply = Checks form w text reply
 MayReply (Some (task.Deck form)) w text reply = LaysOut form text reply
 MayReply (Some (task.Make n)) w text reply = SumsUp n w reply
+MayReply (Some (task.Audit form)) w text reply = Audits form w text reply
 
--- a deck is read only as needed; a check reads to the end of the input, and where a deck is made nothing is read
+-- a deck is read only as needed; a check and an audit read to the end of the input, and where a deck is made nothing is read
 abbrev pub TakesAsNeeded : Option Task → Stream → Stream → Type 0
 TakesAsNeeded None input input' = input' ≡ input
 TakesAsNeeded (Some (task.Solve asked)) input input' = IsReadAsNeeded asked.form [] input.bytes input'.bytes
 TakesAsNeeded (Some (task.Check form)) input input' = Unit {0}
 TakesAsNeeded (Some (task.Deck form)) input input' = IsReadAsNeeded form [] input.bytes input'.bytes
 TakesAsNeeded (Some (task.Make n)) input input' = input' ≡ input
+TakesAsNeeded (Some (task.Audit form)) input input' = Unit {0}
 
--- a check that gives its verdict has read the input to its end
+-- nothing is left to read
+abbrev pub IsAtEnd : Option (List ℕ) → Type 0
+IsAtEnd left = IfSome left (λ bytes. bytes ≡ [])
+
+-- a check or an audit that gives its verdict has read the input to its end
 abbrev pub IsReadOut : Option Task → Option (List ℕ) → Type 0
-IsReadOut (Some (task.Check form)) left = IfSome left (λ bytes. bytes ≡ [])
+IsReadOut (Some (task.Check form)) left = IsAtEnd left
+IsReadOut (Some (task.Audit form)) left = IsAtEnd left
 IsReadOut other left = Unit {0}
 
 -- a read was needed after all that was taken
 abbrev pub IsCutOff : Option Task → Stream → Stream → Type 0
 IsCutOff None input input' = ⊥
 IsCutOff (Some (task.Solve asked)) input input' = IfSome input.bytes (IsDeckCutOff asked.form input'.bytes)
-IsCutOff (Some (task.Check form)) input input' = IfSome input.bytes (λ text. IsDeckCutOff form input'.bytes text ⊎ IsReportCutOff form input'.bytes input.faults input'.faults text)
+IsCutOff (Some (task.Check form)) input input' = IfSome input.bytes (IsBothCutOff form input'.bytes input.faults input'.faults)
 IsCutOff (Some (task.Deck form)) input input' = IfSome input.bytes (IsDeckCutOff form input'.bytes)
 IsCutOff (Some (task.Make n)) input input' = ⊥
+IsCutOff (Some (task.Audit form)) input input' = IfSome input.bytes (IsBothCutOff form input'.bytes input.faults input'.faults)
 
 -- ── how any of them ends ──
 

@@ -11,6 +11,7 @@ pub mod Reply
 pub mod FirstFaults
 pub mod Checks
 pub mod Truths
+pub mod Audits
 pub mod Solves
 pub mod Layouts
 pub mod Summaries

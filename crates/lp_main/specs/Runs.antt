@@ -3,11 +3,14 @@ use Rattle.std.specs.Prelude.{◌≡◌, ◌≤◌, ◌⊎◌, ℕ, List, Option
 use Rattle.io_ends.specs.Count.{Rose}
 use Rattle.lp_model.specs.Deck.{Deck}
 use Rattle.lp_model.specs.Log.{moves}
+use Rattle.lp_model.specs.declared.Place.{Place}
 use Rattle.lp_model.specs.Outcome.{Outcome}
 use Rattle.lp_model.specs.declared.Entry.{Entry}
 use Rattle.lp_run.specs.Ends.{HasOutcome}
 use Rattle.lp_run.specs.Instance.{instance_of}
 use Rattle.lp_run.specs.Listing.{RunFits}
+use Rattle.lp_text.specs.declared.Form.{Form}
+use Rattle.report_lines.specs.declared.flaw.Flaw.{Flaw}
 use Rattle.mps_model.specs.DeckOf.{Reading, has_fault, is_deck, reading_of}
 use Rattle.deck_tools.specs.Layout.{deck_text}
 use Rattle.deck_tools.specs.Transport.{transport}
@@ -15,6 +18,8 @@ use Rattle.lp_main.specs.declared.status.Status.{Status}
 use Rattle.lp_main.specs.declared.status.Status.TheVariants as status
 use Rattle.lp_main.specs.declared.words.Task.{Task}
 use Rattle.lp_main.specs.declared.words.Task.TheVariants as task
+use Rattle.lp_main.specs.Audits.{IsUnfitAudit}
+use Rattle.lp_main.specs.Checks.{IsReportFlaw}
 use Rattle.lp_main.specs.Ends.{End, IsOrMemory, LeavesBy, TakesAsNeeded, ReadsBy, SaysBy, WritesBy, status_of_end}
 use Rattle.lp_main.specs.FaultLines.{fault_line}
 use Rattle.lp_main.specs.Refusals.{wide_line}
@@ -39,6 +44,11 @@ abbrev pub MustLayOut : Result (List ℕ) (List ℕ) → Status → (List ℕ �
 MustLayOut (Ok bytes) s Said = IsOrMemory s status.Done
 MustLayOut (Err name) s Said = RefusesInput s Said (wide_line name)
 
+-- a report without a flaw is judged, unless a value of the run does not fit as far as the audit follows it, or memory ran out
+abbrev pub MustAudit : Form → ℕ → List ℕ → Status → Type 0
+MustAudit form w text s = ((number : ℕ) (found : Flaw) → ¬ IsReportFlaw form number found text) → ((here : Place) → ¬ IsUnfitAudit form w here text)
+    → (s ≡ status.Done) ⊎ IsOrMemory s status.Refused
+
 -- a text with a fault is refused with the line of its first; of a deck this is owed
 abbrev pub MustAnswerTo : Reading → Status → (List ℕ → Type 0) → (Deck → Type 0) → Type 0
 MustAnswerTo (has_fault fault) s Said Owed = RefusesInput s Said (fault_line fault)
@@ -50,6 +60,7 @@ MustAnswer (task.Solve asked) w text s Said = IfSome text (λ t. MustAnswerTo (r
 MustAnswer (task.Check form) w text s Said = IfSome text (λ t. MustAnswerTo (reading_of form t) s Said (λ d. Unit {0}))
 MustAnswer (task.Deck form) w text s Said = IfSome text (λ t. MustAnswerTo (reading_of form t) s Said (λ d. MustLayOut (deck_text form d) s Said))
 MustAnswer (task.Make n) w text s Said = MustSolve summary_budget w (transport n) s
+MustAnswer (task.Audit form) w text s Said = IfSome text (λ t. MustAnswerTo (reading_of form t) s Said (λ d. MustAudit form w t s))
 
 -- what is asked for, at a width of w bits, turns the world before into the world after, with this status
 pub record Runs (what : Option Task) (w : ℕ) (before after : World) (s : Status) : Type 0 where

@@ -34,8 +34,9 @@ WritesTruth form old new text =
 abbrev pub TellsTruth : Form → List ℕ → Type 0
 TellsTruth form text = (d : Deck) × (report : Report) × TellsReport form text d report × IsTrue d report.outcome
 
--- a report that a solve wrote, or a check accepted, is true of the deck
+-- a report that a solve wrote, or a check accepted, or an audit found to be the run, is true of the deck
 abbrev pub IsDoneTruly : Option Task → Option (List ℕ) → Option (List ℕ) → Option (List ℕ) → Status → Type 0
 IsDoneTruly (Some (task.Solve asked)) text old new s = s ≡ status.Done → IfSome text (WritesTruth asked.form old new)
 IsDoneTruly (Some (task.Check form)) text old new s = s ≡ status.Done → IfSome text (TellsTruth form)
+IsDoneTruly (Some (task.Audit form)) text old new s = s ≡ status.Done → IfSome text (TellsTruth form)
 IsDoneTruly other text old new s = Unit {0}

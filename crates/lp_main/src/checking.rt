@@ -7,7 +7,7 @@ ghost use Rattle.cert_check.specs.Walk.{walk};
 ghost use Rattle.report_reader.specs.Reading.{IsReportOf};
 ghost use Rattle.lp_main.specs.declared.words.Task.{Task};
 ghost use Rattle.lp_main.specs.Checks.{IsVerdictOn, TellsReport};
-ghost use Rattle.lp_main.specs.Ends.{Writes, IsCause, IsReadOut};
+ghost use Rattle.lp_main.specs.Ends.{Writes, IsAtEnd, IsCause, IsReadOut};
 ghost use Rattle.lp_main.specs.Inner.Checking.{IsBothCause, IsJudgeCause, answer_of, refusal_of_report};
 ghost use Rattle.lp_main.specs.World.{stream};
 
@@ -39,14 +39,14 @@ fn refusal_of_report(fault: ReportFault) -> Refusal
 }
 
 /// Reads a deck, and the report behind it.
-fn read_both<S: Source>(
+pub fn read_both<S: Source>(
     alloc: Global,
     form: Form,
     source: &mut S,
 ) -> Result<(Deck, Report), Refusal>
     ensures told { IfOk result (λ both. IfSome (S.remaining source.old) (λ text. TellsReport form text both.0 both.1)) }
     ensures of_deck { IfOk result (λ both. IsReportOf both.0 both.1) }
-    ensures end { OnOk result (IsReadOut (Some (Task.Check form)) (S.remaining source.new)) }
+    ensures end { OnOk result (IsAtEnd (S.remaining source.new)) }
     ensures cause { IfErr result (IsBothCause form (S.remaining source.old) (S.remaining source.new) (S.fault_count source.old) (S.fault_count source.new)) }
     ensures rose { IsErrOf result Refusal.Read → Rose (S.fault_count source.old) (S.fault_count source.new) }
     ensures stays { ¬ IsErrOf result Refusal.Read → S.fault_count source.new ≡ S.fault_count source.old }

@@ -33,6 +33,7 @@ use std::thread::Threads;
 /// What is asked of the run of a made deck: its log, for the count of its moves.
 const ASKED: Asked = Asked {
     form: Form::Fixed,
+    workers: 0,
     budget: 1_000_000,
     log: true,
     version: 1,
@@ -114,7 +115,7 @@ pub fn make_and_solve<R: Threads + Sync, K: Sink, A: Arith>(
     ensures sink_stays { ¬ IsErrOf result Refusal.Write → K.fault_count out.new ≡ K.fault_count out.old }
     ensures sink_never_falls { K.fault_count out.old ≤ K.fault_count out.new }
     ensures same_width { A.width arith.new ≡ A.width arith.old }
-    ensures works { WorksCalmly (A.width arith.old) (transport size)
+    ensures works { WorksCalmly 0 (A.width arith.old) (transport size)
         (counts (A.unfit_count arith.old) (A.work_count arith.old)) (counts (A.unfit_count arith.new) (A.work_count arith.new)) (status_of_end result) }
 {
     let Ok(deck) = make(alloc, size) else {

@@ -67,7 +67,7 @@ impl Refusal {
         match self {
             Refusal::Usage => whole_line(
                 alloc,
-                "lp: usage: lp solve [--free] [--workers W] [--reinverters R] [--budget N] [--log] [--report V] or check [--free] or deck [--free] or make N",
+                "lp: usage: lp solve [--free] [--workers W] [--reinverters R] [--budget N] [--log] [--report V] or check [--free] or deck [--free] or make N or audit [--free]",
             ),
             Refusal::Deck(fault) => fault_line(alloc, fault),
             Refusal::Read => whole_line(alloc, "lp: read failed"),

@@ -14,7 +14,10 @@ ghost use Rattle.mps_cards.specs.NextLine.{lines_left};
 ghost use Rattle.mps_model.specs.DeckOf.{IsDeckOf};
 ghost use Rattle.mps_reader.specs.Answers.{IsReadAsNeeded};
 ghost use Rattle.bland_ratio.specs.Entries.{stored_entries};
+ghost use Rattle.factor_run.specs.Bound.{solve_work};
 ghost use Rattle.factor_run.specs.Calm.{IsCalm};
+ghost use Rattle.crew.specs.Answers.{Solves};
+ghost use Rattle.crew.specs.Inner.Works.{IsCalmFault};
 ghost use Rattle.lp_main.specs.declared.words.Task.{Task};
 ghost use Rattle.lp_main.specs.Ends.{Writes, IsCause, status_of_end};
 ghost use Rattle.lp_main.specs.Works.{IsBounded, Works, counts};
@@ -27,7 +30,7 @@ use crate::refusal::Refusal;
 use crate::status::Answer;
 use crate::words::Asked;
 use cert_text::{Report, ReportWriteFault, write_report};
-use crew::{Closed, CrewFault, solve_alone};
+use crew::{Closed, CrewFault, Silent, solve_alone};
 use deck_model::Deck;
 use exact_frac::Arith;
 use instance_model::{Instance, InstanceFault};
@@ -73,8 +76,8 @@ pub fn load<S: Source>(
     }
 }
 
-/// The report of a deck. Where its instance is calm no result is unfit, and the products and quotients are within the bound of
-/// a solve over factors, those of the start sums included.
+/// The report of a deck. Where its instance is calm no result is unfit, and without workers the products and quotients are within
+/// the bound of a solve over factors, those of the start sums included.
 pub fn report_of<R: Threads + Sync, A: Arith>(
     rt: &R,
     alloc: Global,
@@ -86,7 +89,8 @@ pub fn report_of<R: Threads + Sync, A: Arith>(
     ensures cause { IfErr result (IsReportCause asked (A.width arith.old) deck.now) }
     ensures same_width { A.width arith.new ≡ A.width arith.old }
     ensures calm { IsCalm (A.width arith.old) (instance_of deck.now) → A.unfit_count arith.new ≡ A.unfit_count arith.old }
-    ensures work { IsCalm (A.width arith.old) (instance_of deck.now) → IfOk result (λ _. IsBounded deck.now (A.work_count arith.old) (A.work_count arith.new)) }
+    ensures work { asked.workers ≡ 0 → IsCalm (A.width arith.old) (instance_of deck.now)
+        → IfOk result (λ _. IsBounded deck.now (A.work_count arith.old) (A.work_count arith.new)) }
 {
     let _rows = deck.rows();
     match Instance::of(alloc, deck, arith) {
@@ -112,7 +116,8 @@ fn report_of_shared<R: Threads + Sync, A: Arith>(
     ensures cause { IfErr result (IsReportCause asked (A.width arith.old) deck.now) }
     ensures same_width { A.width arith.new ≡ A.width arith.old }
     ensures calm { IsCalm (A.width arith.old) (instance_of deck.now) → A.unfit_count arith.new ≡ A.unfit_count arith.old }
-    ensures work { IsCalm (A.width arith.old) (instance_of deck.now) → IfOk result (λ _. IsBounded deck.now (A.work_count arith.old) (A.work_count arith.new + stored_entries (instance_of deck.now))) }
+    ensures work { asked.workers ≡ 0 → IsCalm (A.width arith.old) (instance_of deck.now)
+        → IfOk result (λ _. IsBounded deck.now (A.work_count arith.old) (A.work_count arith.new + stored_entries (instance_of deck.now))) }
 {
     let Ok(shared) = Arc::new(alloc, inst) else {
         return Err(Refusal::Memory);
@@ -121,6 +126,27 @@ fn report_of_shared<R: Threads + Sync, A: Arith>(
         return Err(Refusal::Memory);
     };
     report_of_instance(rt, alloc, asked, deck, run, &shared, arith)
+}
+
+/// The end of an instance's run, which one thread makes, or for which so many workers price.
+fn run<R: Threads + Sync, A: Arith>(
+    rt: &R,
+    alloc: Global,
+    asked: Asked,
+    inst: Arc<Instance>,
+    arith: &mut A,
+) -> Result<Closed, CrewFault>
+    requires fits { StartFits (A.width arith.old) inst.value }
+    ensures solves { Solves (A.width arith.old) inst.value asked.budget result }
+    ensures width { A.width arith.new ≡ A.width arith.old }
+    ensures calm { IsCalm (A.width arith.old) inst.value → (A.unfit_count arith.new ≡ A.unfit_count arith.old) × IfErr result IsCalmFault }
+    ensures work { asked.workers ≡ 0 → IsCalm (A.width arith.old) inst.value
+        → IfOk result (λ closed. A.work_count arith.new + stored_entries inst.value ≤ A.work_count arith.old + solve_work inst.value closed.moves) }
+{
+    match asked.workers {
+        0 => solve_alone(rt, alloc, inst, asked.budget, arith),
+        workers => crew::solve(rt, alloc, inst, workers, asked.budget, arith, &Silent),
+    }
 }
 
 /// The report of a deck by its instance, which the run shares.
@@ -141,9 +167,10 @@ fn report_of_instance<R: Threads + Sync, A: Arith>(
     ensures cause { IfErr result (IsReportCause asked (A.width arith.old) deck.now) }
     ensures same_width { A.width arith.new ≡ A.width arith.old }
     ensures calm { IsCalm (A.width arith.old) (instance_of deck.now) → A.unfit_count arith.new ≡ A.unfit_count arith.old }
-    ensures work { IsCalm (A.width arith.old) (instance_of deck.now) → IfOk result (λ _. IsBounded deck.now (A.work_count arith.old) (A.work_count arith.new + stored_entries (instance_of deck.now))) }
+    ensures work { asked.workers ≡ 0 → IsCalm (A.width arith.old) (instance_of deck.now)
+        → IfOk result (λ _. IsBounded deck.now (A.work_count arith.old) (A.work_count arith.new + stored_entries (instance_of deck.now))) }
 {
-    match solve_alone(rt, alloc, shared, asked.budget, arith) {
+    match run(rt, alloc, asked, shared, arith) {
         Ok(closed) => report_of_closed(alloc, asked, inst, closed),
         Err(CrewFault::Overflow(place)) => Err(Refusal::Overflow(place)),
         Err(CrewFault::Budget(moves)) => Err(Refusal::Budget(moves)),

@@ -7,7 +7,7 @@ ghost use Rattle.lp_main.specs.Codes.{code_of, status_of_answer};
 pub enum Status {
     /// What was asked for is written whole.
     Done,
-    /// A check found a rule broken.
+    /// A check found a rule broken, or an audit another run.
     Refused,
     /// The words are no wish.
     Usage,
@@ -37,9 +37,9 @@ impl Status {
 /// How a call ends that is not refused.
 #[derive(Clone, Copy, Debug)]
 pub enum Answer {
-    /// What was asked for is written whole; a report that was to be checked is accepted.
+    /// What was asked for is written whole; a report that was to be checked is accepted, and one that was to be audited is the run.
     Done,
-    /// A check found a rule broken, and wrote which.
+    /// A check found a rule broken, or an audit another run, and wrote which or where.
     Refused,
 }
 

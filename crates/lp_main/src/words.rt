@@ -14,6 +14,8 @@ use std::alloc::Global;
 pub struct Asked {
     /// The form of the deck.
     pub form: Form,
+    /// How many workers price, 0 to 64. With none, one thread makes the run.
+    pub workers: u32,
     /// How many moves the run may take.
     pub budget: u64,
     /// Whether the report tells the run's log.
@@ -33,6 +35,8 @@ pub enum Task {
     Deck(Form),
     /// A solve of the transport deck of a size.
     Make(u32),
+    /// An audit of the report that stands behind a deck of this form.
+    Audit(Form),
 }
 
 /// The form of a deck, by whether the words ask for the free one.
@@ -51,6 +55,7 @@ pub fn served(alloc: Global, words: &[String]) -> Result<Task, Refusal>
     match wish(alloc, words) {
         Ok(
             Wish::Solve {
+                workers,
                 budget,
                 log,
                 free,
@@ -59,6 +64,7 @@ pub fn served(alloc: Global, words: &[String]) -> Result<Task, Refusal>
             },
         ) => Ok(Task::Solve(Asked {
             form: form_of(free),
+            workers,
             budget,
             log,
             version,
@@ -66,6 +72,8 @@ pub fn served(alloc: Global, words: &[String]) -> Result<Task, Refusal>
         Ok(Wish::Check { free }) => Ok(Task::Check(form_of(free))),
         Ok(Wish::Deck { free }) => Ok(Task::Deck(form_of(free))),
         Ok(Wish::Make(size)) => Ok(Task::Make(size)),
+        Ok(Wish::Audit { free }) => Ok(Task::Audit(form_of(free))),
+        Ok(Wish::Range { .. }) => Err(Refusal::Usage),
         Err(WordsFault::Usage) => Err(Refusal::Usage),
         Err(WordsFault::Memory) => Err(Refusal::Memory),
     }

@@ -7,7 +7,7 @@ use Rattle.lp_text.specs.Digits.{digits_value, is_digit}
 use Rattle.lp_words.specs.declared.fault.WordsFault.{WordsFault}
 use Rattle.lp_words.specs.declared.fault.WordsFault.TheVariants.{Memory, Usage}
 use Rattle.lp_words.specs.declared.wishes.Wish.{Wish}
-use Rattle.lp_words.specs.declared.wishes.Wish.TheVariants.{Solve, Check, Deck, Make}
+use Rattle.lp_words.specs.declared.wishes.Wish.TheVariants.{Solve, Check, Deck, Make, Range, Audit}
 use Rattle.lp_words.specs.declared.setting.Setting.{Setting}
 use Rattle.lp_words.specs.declared.setting.Setting.TheVariants.{Workers, Reinverters, Budget, Report, Log, Free}
 use Rattle.lp_words.specs.declared.given.Given.{Given}
@@ -103,6 +103,8 @@ wish_of (command ∷ words) =
     else if bytes_eq command (codes "check") then option_map Check (free_of words)
     else if bytes_eq command (codes "deck") then option_map Deck (free_of words)
     else if bytes_eq command (codes "make") then option_map Make (size_of words)
+    else if bytes_eq command (codes "range") then option_map Range (free_of words)
+    else if bytes_eq command (codes "audit") then option_map Audit (free_of words)
     else None
 
 -- whether the wish is a solve with workers

@@ -28,6 +28,12 @@ pub fn wished(words: &[String]) -> Option<Wish>
     if is_text(command, "make") {
         return Some(Wish::Make(size(words)?));
     }
+    if is_text(command, "range") {
+        return Some(Wish::Range { free: free(words)? });
+    }
+    if is_text(command, "audit") {
+        return Some(Wish::Audit { free: free(words)? });
+    }
     None
 }
 

@@ -1,9 +1,9 @@
 //! The words of a command, and what they wish for.
 //!
-//! The first word is a command: `solve`, `check`, `deck` or `make`. After `solve` come options in any order, each at most
-//! once: the flags `--log` and `--free`, and `--workers`, `--reinverters`, `--budget` and `--report`, each with its number as
-//! the next word or after `=` in the same word. After `check` and `deck` may come `--free`, and after `make` comes one number.
-//! A number is 1 to 7 decimal digits, within the range of its option.
+//! The first word is a command: `solve`, `check`, `deck`, `make`, `range` or `audit`. After `solve` come options in any order,
+//! each at most once: the flags `--log` and `--free`, and `--workers`, `--reinverters`, `--budget` and `--report`, each with its
+//! number as the next word or after `=` in the same word. After `make` comes one number, and after each other command may come
+//! `--free`. A number is 1 to 7 decimal digits, within the range of its option.
 //!
 //! # Model
 //!

@@ -30,4 +30,14 @@ pub enum Wish {
     },
     /// Make the transport deck of this size, 1 to 20, and solve it.
     Make(u32),
+    /// Read a deck, solve it, and tell how far each cost and each right side may change.
+    Range {
+        /// Whether the deck is in free form.
+        free: bool,
+    },
+    /// Read a deck and a report, and judge whether the report is the deck's run.
+    Audit {
+        /// Whether the deck is in free form.
+        free: bool,
+    },
 }

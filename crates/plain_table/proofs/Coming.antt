@@ -1,5 +1,5 @@
 -- What comes next at a table that stands at a state.
-use Rattle.std.proofs.Common.{◌≡◌, ℕ, ◌↔◌, IsTrue, IfErr, IsErrAnd, Result, Ok, Err, inl, inr, Bool, true, false, cond, not, List, [], ◌∷◌, ◌++◌, Option, Some, None, refl, sym, ◌∙◌, ap, subst}
+use Rattle.std.proofs.Common.{◌≡◌, ℕ, ◌<◌, ◌↔◌, IsTrue, IfErr, IsErrAnd, Result, inl, inr, Bool, true, false, cond, not, List, [], ◌∷◌, ◌++◌, Option, Some, None, refl, sym, ◌∙◌, ap, subst}
 use Rattle.lp_model.specs.declared.Entry.{Entry}
 use Rattle.lp_model.specs.declared.Entry.TheVariants.{Flip, Swap}
 use Rattle.lp_model.specs.declared.Kind.TheVariants as kind
@@ -11,18 +11,20 @@ use Rattle.rational.specs.Rational.{ℚ, zero_ℚ, one_ℚ, neg_ℚ, lt_ℚ, eq_
 use Rattle.rational.specs.Sum.{at}
 use Rattle.rational.proofs.OrderLaws.{eq_ℚ-decides}
 use Rattle.bland_ratio.specs.Leave.{direction_where}
-use Rattle.lp_run.specs.Instance.{Instance, bounds, row_count}
+use Rattle.lp_run.specs.Instance.{Instance, bounds, column_count, row_count}
 use Rattle.lp_run.specs.Listing.{AllFit, Listed, first_unfit, move_listing, place, ratio_listing, Judges}
-use Rattle.lp_run.specs.Solution.{reduced}
+use Rattle.lp_run.specs.Solution.{ColumnOf, Prices, Values, reduced}
 use Rattle.lp_run.specs.State.{State, basic}
-use Rattle.lp_run.specs.Step.{Enters, IsArtificial, IsFree, IsLimit, Leaves, Limit, Pivoting, direction, distance_at, limit_at, own_limit}
+use Rattle.lp_run.specs.Step.{Eligible, Enters, IsArtificial, IsFree, IsLimit, Leaves, Limit, NoneEligible, Pivoting, direction, distance_at, limit_at, own_limit}
 use Rattle.lp_run.proofs.FirstUnfit.{all-append, all-flat_map, unfit-append}
 use Rattle.bland_laws.proofs.Searches.{Below, FirstOrNone, first_below, one_more}
 use Rattle.bland_ratio.specs.declared.ratio_test.Leave.{Leave}
 use Rattle.bland_ratio.specs.declared.ratio_test.Leave.TheVariants as leave
-use Rattle.lp_run.proofs.Regularity.{column_solves}
-use Rattle.plain_table.specs.Inner.Next.{DecidesAt, HasUnfitRatio, StandsOff, next_by}
-use Rattle.plain_table.specs.Next.{ComesNext, OverflowsNext, column, prices}
+use Rattle.lp_run.proofs.Regularity.{column_solves, one_column, one_prices, one_values}
+use Rattle.lp_run.proofs.Runs.{reached_regular}
+use Rattle.lp_run.proofs.Unique.{one_entering}
+use Rattle.plain_table.specs.Inner.Next.{DecidesAt, StandsOff, next_by, tested_at}
+use Rattle.plain_table.specs.Next.{ComesNext, OverflowsNext, RatioLists, column, prices}
 use Rattle.plain_table.specs.Plain.{Plain, Stands, cell}
 
 -- the direction of a step, by whether the reduced cost is below 0
@@ -33,14 +35,13 @@ way_where d below e = by_test (lt_ℚ d zero_ℚ) ∙ ap (λ t. direction_where 
     by_test true = refl
     by_test false = refl
 
--- what is refused is the first that does not fit
-pub judged_unfit : {A : Type 0} (w : ℕ) (vs : List Listed) (r : Result A Place) → Judges w vs r → IfErr r (λ here. first_unfit w vs ≡ Some here)
-judged_unfit w vs (Ok a) h = tt
-judged_unfit w vs (Err here) h = h
-
 -- a refusal that is handed on has the same cause
 pub handed_on : {A E : Type 0} {e : E} (r : Result A E) (P : E → Type 0) → IsErrAnd r (λ f. f ≡ e) → P e → IfErr r P
 handed_on r P is h = let found = err_from_is_err_and r is in subst (λ r. IfErr r P) (sym found.1) (subst P (sym found.2) h)
+
+-- a refusal that is handed on is judged by what its place is judged by
+pub judged_on : {A : Type 0} {e : Place} (r : Result A Place) (w : ℕ) (vs ws : List Listed) → vs ≡ ws → IsErrAnd r (λ f. f ≡ e) → first_unfit w ws ≡ Some e → Judges w vs r
+judged_on r w vs ws same is h = let found = err_from_is_err_and r is in subst (Judges w vs) (sym found.1) (ap (first_unfit w) same ∙ h ∙ ap Some (sym found.2))
 
 -- an artificial that does not stand off 0 is 0
 pub not_off : (inst : Instance) (s : State) (β : List ℚ) (p : ℕ) (off : Bool) → IsTrue off ↔ StandsOff inst s β p → off ≡ false → IsArtificial inst (basic s p) → at β p ≡ zero_ℚ
@@ -89,6 +90,24 @@ limited w inst k s q t β α here unfit =
     by_first (inl (limit, first)) = (limit, record { is_limit = first.is; first = first.first })
     by_first (inr none) = absurd (apart (sym (free_fits w inst k s q t β α none) ∙ unfit))
 
+-- ── what the ratio test lists ──
+
+module _ (inst : Instance) (log : List Entry) (t : Plain) (stands : Stands inst log t) where
+  same_prices : (y : List ℚ) → Prices inst t.state y → y ≡ prices inst t
+  same_prices y h = one_prices inst t.state (reached_regular inst log t.state stands.table.reached) y (prices inst t) h stands.table.prices
+
+  same_values : (β : List ℚ) → Values inst t.state β → β ≡ t.values
+  same_values β h = one_values inst t.state (reached_regular inst log t.state stands.table.reached) β t.values h stands.table.values
+
+  same_column : (q : ℕ) → q < column_count inst → (α : List ℚ) → ColumnOf inst t.state q α → α ≡ column inst t q
+  same_column q within α h =
+      one_column inst t.state (reached_regular inst log t.state stands.table.reached) q α (column inst t q) h (column_solves inst t.state (cell t) stands.table.columns q within)
+
+  -- where no column is eligible, nothing
+  pub nothing_tested : (w : ℕ) → NoneEligible inst t.state (prices inst t) → (vs : List Listed) → RatioLists inst t.number t.state vs → AllFit w vs
+  nothing_tested w none vs (inl (y, β, α, q, pivots, is)) = absurd (none q (subst (λ y. Eligible inst t.state y q) (same_prices y pivots.prices) pivots.enters.eligible))
+  nothing_tested w none vs (inr (y, β, rests, is)) = subst (AllFit w) (sym is) refl
+
 module _ (inst : Instance) (log : List Entry) (t : Plain) (stands : Stands inst log t) (q : ℕ) (enters : Enters inst t.state (prices inst t) q) where
   pivoting : Pivoting inst t.state (prices inst t) t.values (column inst t q) q
   pivoting = record {
@@ -104,6 +123,21 @@ module _ (inst : Instance) (log : List Entry) (t : Plain) (stands : Stands inst 
   same_way : direction (at t.costs q) ≡ way
   unfolding way
   same_way = ap direction (stands.table.costs q enters.eligible.in_range)
+
+  -- the ratio test is that of the column that enters
+  pub one_test : (vs : List Listed) → RatioLists inst t.number t.state vs → vs ≡ tested_at inst t q
+  unfolding way
+  one_test vs (inl (y, β, α, q', pivots, is)) =
+      let prices_are : y ≡ prices inst t = same_prices inst log t stands y pivots.prices in
+      let same : q' ≡ q = one_entering inst t.state (prices inst t) q' q (subst (λ y. Enters inst t.state y q') prices_are pivots.enters) enters in
+      let column_is : α ≡ column inst t q = same_column inst log t stands q enters.eligible.in_range α (subst (λ q. ColumnOf inst t.state q α) same pivots.column) in
+      is
+      ∙ ap (λ y. ratio_listing inst t.number t.state q' (direction (reduced inst t.state y q')) β α) prices_are
+      ∙ ap (λ q. ratio_listing inst t.number t.state q (direction (reduced inst t.state (prices inst t) q)) β α) same
+      ∙ ap (λ β. ratio_listing inst t.number t.state q (direction (reduced inst t.state (prices inst t) q)) β α) (same_values inst log t stands β pivots.values)
+      ∙ ap (λ α. ratio_listing inst t.number t.state q (direction (reduced inst t.state (prices inst t) q)) t.values α) column_is
+      ∙ ap (λ way. ratio_listing inst t.number t.state q way t.values (column inst t q)) (sym same_way)
+  one_test vs (inr (y, β, rests, is)) = absurd (rests.none_eligible q (subst (λ y. Eligible inst t.state y q) (sym (same_prices inst log t stands y rests.prices)) enters.eligible))
 
   pub comes_next : (l : Leave) → DecidesAt inst t q l → ComesNext inst t (next_by q l)
   unfolding way
@@ -129,7 +163,7 @@ module _ (inst : Instance) (log : List Entry) (t : Plain) (stands : Stands inst 
   )
   comes_next leave.Free decides = (pivoting, subst (λ c. IsFree inst t.state q c t.values (column inst t q)) same_way decides)
 
-  pub overflows_next : (w : ℕ) (here : Place) → HasUnfitRatio w inst t q here → OverflowsNext w inst t here
+  pub overflows_next : (w : ℕ) (here : Place) → first_unfit w (tested_at inst t q) ≡ Some here → OverflowsNext w inst t here
   unfolding way
   overflows_next w here unfit =
       let ratios_unfit : first_unfit w (ratio_listing inst t.number t.state q way t.values (column inst t q)) ≡ Some here =

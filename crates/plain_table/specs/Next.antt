@@ -1,12 +1,14 @@
 -- What comes next at a table.
-use Rattle.std.specs.Prelude.{◌≡◌, ℕ, List, Some}
+use Rattle.std.specs.Prelude.{◌≡◌, ℕ, ◌⊎◌, List, [], Some}
 use Rattle.lp_model.specs.declared.Entry.{Entry}
 use Rattle.lp_model.specs.declared.Place.{Place}
 use Rattle.rational.specs.Rational.{ℚ}
 use Rattle.rational.specs.Sum.{at}
 use Rattle.lp_run.specs.Instance.{Instance}
-use Rattle.lp_run.specs.Listing.{Listed, StepLists, first_unfit}
-use Rattle.lp_run.specs.Step.{EndsFree, EndsInfeasible, EndsOptimal, IsNext}
+use Rattle.lp_run.specs.Listing.{Listed, StepLists, first_unfit, ratio_listing}
+use Rattle.lp_run.specs.Solution.{reduced}
+use Rattle.lp_run.specs.State.{State}
+use Rattle.lp_run.specs.Step.{EndsFree, EndsInfeasible, EndsOptimal, IsNext, Pivoting, Rests, direction}
 use Rattle.lp_run.specs.Tableau.{table_column}
 use Rattle.table_laws.specs.Stands.{prices_shown}
 use Rattle.plain_table.specs.Plain.{Plain, Stands, cell}
@@ -40,3 +42,9 @@ ComesNext inst t (next.End end) = EndsBy inst t end
 -- of what is listed under the table's number, the first value that does not fit the width stands here
 abbrev pub OverflowsNext : ℕ → Instance → Plain → Place → Type 0
 OverflowsNext w inst t here = (now : List Listed) × StepLists inst t.number t.state now × (first_unfit w now ≡ Some here)
+
+-- the ratio test at the state s lists these under number k: that of the column which enters, and nothing where none is eligible
+abbrev pub RatioLists : Instance → ℕ → State → List Listed → Type 0
+RatioLists inst k s vs =
+    ((y β α : List ℚ) × (q : ℕ) × Pivoting inst s y β α q × (vs ≡ ratio_listing inst k s q (direction (reduced inst s y q)) β α))
+    ⊎ ((y β : List ℚ) × Rests inst s y β × (vs ≡ []))

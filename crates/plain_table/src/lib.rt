@@ -26,6 +26,7 @@ mod making;
 mod motion;
 mod next;
 mod pivot;
+mod reading;
 mod residual;
 mod row;
 mod rows;

@@ -1,11 +1,12 @@
 //! What comes next at a table.
-ghost use Rattle.std.specs.Prelude.{◌≡◌, ◌<◌, ◌↔◌, length, IfErr, IfOk, IsTrue, MatchOption};
+ghost use Rattle.std.specs.Prelude.{◌≡◌, ◌<◌, ◌↔◌, length, IfErr, IfOk, IsTrue, List, MatchOption};
 ghost use Rattle.exact_frac.specs.Count.{unfit_after};
 ghost use Rattle.lp_run.specs.Instance.{column_count, row_count};
+ghost use Rattle.lp_run.specs.Listing.{Judges, Listed};
 ghost use Rattle.lp_run.specs.Step.{ArtificialsZero, Eligible, Enters, NoneEligible, direction};
 ghost use Rattle.bland_ratio.specs.Leave.{IsBasisOf, direction_where, ratio_place};
-ghost use Rattle.plain_table.specs.Next.{ComesNext, IsTableOf, OverflowsNext, column as column_of, prices as prices_of};
-ghost use Rattle.plain_table.specs.Inner.Next.{DecidesAt, HasUnfitRatio, StandsOff};
+ghost use Rattle.plain_table.specs.Next.{ComesNext, IsTableOf, OverflowsNext, RatioLists, prices as prices_of};
+ghost use Rattle.plain_table.specs.Inner.Next.{DecidesAt, StandsOff, tested_at};
 
 use crate::motion::{Parts, decide};
 use crate::table::Table;
@@ -92,7 +93,8 @@ fn is_needed(inst: &Instance, state: &State, values: &[Frac], p: usize) -> bool
 
 impl Table {
     /// What comes next at the table's state, by Bland's rule: the least eligible column enters, and the least column of
-    /// the least ratio leaves. The table stays.
+    /// the least ratio leaves. The table stays. Of all numbers only the distances and ratios of the step are worked
+    /// (`RatioLists`): none where no column is eligible.
     ///
     /// # Errors
     ///
@@ -101,6 +103,7 @@ impl Table {
         requires { IsTableOf inst.now self.old }
         ensures next { IfOk result (ComesNext inst.now self.old) }
         ensures overflow { IfErr result (OverflowsNext (A.width arith.old) inst.now self.old) }
+        ensures tested { (tested : List Listed) → RatioLists inst.now self.old.number self.old.state tested → Judges (A.width arith.old) tested result }
         ensures kept { self.new ≡ self.old }
         ensures width { A.width arith.new ≡ A.width arith.old }
         ensures unfit { A.unfit_count arith.new ≡ unfit_after (A.unfit_count arith.old) result }
@@ -145,7 +148,7 @@ impl Table {
         requires table { IsTableOf inst.now self.old }
         requires column { q < column_count inst.now }
         ensures decides { IfOk result (DecidesAt inst.now self.old q) }
-        ensures overflow { IfErr result (HasUnfitRatio (A.width arith.old) inst.now self.old q) }
+        ensures answer { Judges (A.width arith.old) (tested_at inst.now self.old q) result }
         ensures kept { self.new ≡ self.old }
         ensures width { A.width arith.new ≡ A.width arith.old }
         ensures unfit { A.unfit_count arith.new ≡ unfit_after (A.unfit_count arith.old) result }

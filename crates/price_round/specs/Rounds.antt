@@ -1,10 +1,11 @@
 -- What seats know of a round, the rule of its table, and what each kind of step changes.
-use Rattle.std.specs.Prelude.{◌≡◌, ℕ, ◌+◌, ◌-◌, ◌*◌, ◌/◌, ◌^◌, ◌<◌, ◌≤◌, ◌⊎◌, ◌==◌, not, if◌then◌else◌, List, [], ◌∷◌, ◌++◌, Some, None, Bool, min, sum_by, filter}
+use Rattle.std.specs.Prelude.{◌≡◌, ℕ, ◌+◌, ◌-◌, ◌*◌, ◌/◌, ◌^◌, ◌<◌, ◌≤◌, ◌⊎◌, ◌==◌, not, if◌then◌else◌, List, [], ◌∷◌, ◌++◌, Some, None, Bool, true, min, sum_by, filter}
 use mathlib.Core.Option.{some}
 use lib.ListN.{get_elem?}
 use Rattle.atomic_table.specs.Table.{State, Me}
 use Rattle.counting.specs.Counting.{times, once_below}
 use Rattle.lp_run.specs.Instance.{Instance, column_count}
+use Rattle.bland_ratio.specs.declared.tickets.Ticket.{Ticket}
 use Rattle.bland_ratio.specs.Pricing.{Stops}
 use Rattle.price_round.specs.declared.view.Plan.{Plan}
 use Rattle.price_round.specs.declared.view.View.{View}
@@ -32,6 +33,10 @@ no_code = 2 ^ 64 - 1
 -- column j is a stopper of the round
 abbrev pub StopsAt : Plan → ℕ → Bool → Type 0
 StopsAt plan j unfit = Stops plan.width plan.inst.value plan.ticket.value j unfit
+
+-- no column of the ticket is an unfit stopper at the width
+abbrev pub NoneUnfit : ℕ → Instance → Ticket → Type 0
+NoneUnfit w inst ticket = (j : ℕ) → j < column_count inst → Stops w inst ticket j true → ⊥
 
 -- no stopper of the chunk has a code below this one
 abbrev pub NoneBelow : Plan → ℕ → ℕ → Type 0

@@ -1,5 +1,5 @@
 -- The words of a round's contracts.
-use Rattle.std.specs.Prelude.{◌≡◌, ℕ, ◌<◌, ◌≤◌, ◌⊎◌, map, sum_by, count_by, All, List, [], Option, Some, None, Bool, true, false}
+use Rattle.std.specs.Prelude.{◌≡◌, ℕ, ◌<◌, ◌≤◌, ◌⊎◌, map, sum_by, count_by, All, List, [], Option, Some, None, Bool, false}
 use Rattle.counting.specs.Counting.{times}
 use Rattle.lp_run.specs.Instance.{Instance}
 use Rattle.bland_ratio.specs.declared.tickets.Ticket.{Ticket}
@@ -8,7 +8,7 @@ use Rattle.atomic_table.specs.Seated.{TableId}
 use Rattle.price_round.specs.declared.view.Plan.{Plan}
 use Rattle.price_round.specs.declared.round.Round.{Round}
 use Rattle.price_round.specs.declared.round.Seat.{Seat}
-use Rattle.price_round.specs.Rounds.{chunk_start, chunk_end, code_of, no_code, StopsAt, IsState}
+use Rattle.price_round.specs.Rounds.{chunk_start, chunk_end, code_of, no_code, NoneUnfit, StopsAt, IsState}
 
 -- ── of a round ──
 
@@ -36,7 +36,7 @@ IsFirstIn round chunk found =
 
 -- no column of it is an unfit stopper
 abbrev pub FitsAll : Round → Type 0
-FitsAll round = (j : ℕ) → StopsAt (plan_of round) j true → ⊥
+FitsAll round = NoneUnfit (width_of round) (inst_of round) (ticket_of round)
 
 -- ── of a seat ──
 

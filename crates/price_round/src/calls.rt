@@ -29,8 +29,8 @@ pub(crate) const LEAST: usize = 1;
 // The word of a round in which no stopper was offered.
 const NO_CODE: u64 = u64::MAX;
 
-// How many columns a chunk has.
-pub(crate) const CHUNK: usize = 64;
+/// How many columns a chunk has.
+pub const CHUNK: usize = 64;
 
 type Words = Shared<(), View, Plan, ChunkRule>;
 
@@ -157,6 +157,13 @@ impl Round {
         let mut token = gather(&self, seats);
         let code = self.table.shared.load::<Glance>(&mut token, LEAST);
         Ok(choice_of(&self, code))
+    }
+
+    /// The number of its ticket.
+    pub fn number(&self) -> u64
+        ensures { result ≡ (ticket_of self.now).number }
+    {
+        self.ticket.number
     }
 
     // How many chunks there are.

@@ -14,8 +14,9 @@
 //! seats and every order of claims, glances and offers. A ticket has one choice at a width (the law [`one_choice`]), so
 //! it is that of `choose`. [`Round::claim`] gives a chunk above all that the seat has claimed, or none, where
 //! the claim word had passed the last chunk; [`Round::glance`] answers the column of a stopper, at least as low as the seat
-//! has seen or offered, or none, where it has seen none; [`Round::offer`] asks for the first stopper of a chunk that the seat holds, or for none where
-//! there is none or a stopper below the chunk was seen. [`Round::work`] does all of this until no chunk is left.
+//! has seen or offered, or none, where it has seen none; [`Round::offer`] asks for the first stopper of a chunk that the
+//! seat holds, or for none where there is none or a stopper below the chunk was seen. [`Round::settle`] does this for one
+//! chunk, and [`Round::work`] claims and settles until no chunk is left.
 //! [`Round::survey`] tells all seats together the state of their round (`IsSurvey`): how many chunks are given away, each
 //! to one of them and once, and the least code, which is a function of the chunks that were offered (the laws
 //! [`next_chunk`] and [`one_least`]).
@@ -41,6 +42,7 @@ mod survey;
 mod view;
 mod work;
 
+pub use calls::CHUNK;
 pub use round::{Round, RoundFault, Seat};
 
 /// Two states of a round in which one chunk more is claimed: it is the next one, and one more is given away.

@@ -9,9 +9,9 @@ ghost use Rattle.run_outcome.specs.Endings.{EndsAt, IsOutcomeCause, count_after}
 ghost use Rattle.run_outcome.specs.declared.stop.Stop.TheVariants as stop;
 
 use crate::fault::OutcomeFault;
-use crate::objective::objective;
 use crate::points::{count_in, point, ray};
 use crate::stop::Stop;
+use crate::total::objective;
 use deck_model::Outcome;
 use exact_frac::{Arith, Frac, Fracs};
 use instance_model::{Instance, State};

@@ -5,7 +5,9 @@
 //!
 //! **Contract.** [`outcome`] gives the outcome of the state (`Yields` of `lp_run`). It is refused for want of memory, or
 //! at an optimum with the place of the first sum of the objective that does not fit the width of the arithmetic
-//! (`IsOutcomeCause`). The count of unfit results rises by one exactly then.
+//! (`IsOutcomeCause`). The count of unfit results rises by one exactly then. Its parts are public, for whoever compares them
+//! one by one with what is said of a run: [`point`], [`count_in`] for the prices, [`ray`], and [`objective`], the only one
+//! that works numbers.
 //!
 //! **Work.** At most one product for each structural with a cost (`nonzero_costs` of `bland_ratio`).
 //!
@@ -15,10 +17,12 @@
 
 mod ending;
 mod fault;
-mod objective;
 mod points;
 mod stop;
+mod total;
 
 pub use ending::{Ending, outcome};
 pub use fault::OutcomeFault;
+pub use points::{count_in, point, ray};
 pub use stop::Stop;
+pub use total::objective;

@@ -14,7 +14,11 @@ use instance_model::{Instance, State, rest_of};
 use lp_model::Sense;
 use std::alloc::{AllocError, Global};
 
-/// The values of the structurals, at these basic values.
+/// The values of the n structurals, at these m basic values, by position.
+///
+/// # Errors
+///
+/// `AllocError` for want of memory.
 pub fn point(
     alloc: Global,
     inst: &Instance,
@@ -30,7 +34,7 @@ pub fn point(
     Ok(x)
 }
 
-/// Turns prices into those that the sense counts.
+/// Turns the prices of the m rows, of the least objective, into those that the sense counts.
 pub fn count_in(sense: Sense, y: &mut [Frac])
     ensures { y.new ≡ prices_in sense y.old }
 {
@@ -40,7 +44,12 @@ pub fn count_in(sense: Sense, y: &mut [Frac])
     }
 }
 
-/// The ray along which column `q`, which is `alpha` in terms of the basis, moves without end: it falls, or rises.
+/// The ray along which column `q`, which is `alpha` in terms of the basis, by position, moves without end: it falls, or
+/// rises. It has a number for each of the n structurals.
+///
+/// # Errors
+///
+/// `AllocError` for want of memory.
 pub fn ray(
     alloc: Global,
     inst: &Instance,

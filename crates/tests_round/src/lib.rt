@@ -1,7 +1,8 @@
-//! Tests of what threads share: `price_round` and `switch_gate`.
+//! Tests of what threads share: `price_round`, `switch_gate` and `crew`.
 //!
 //! Rounds are closed in and out of order, by one thread and by four, and each choice is compared with that of `choose`
-//! or with one worked out by hand. A gate's passes are taken, split and joined.
+//! or with one worked out by hand. A gate's passes are taken, split and joined. A deck of seventy columns is solved by
+//! seats, one of which is held with its chunk until a later chunk was offered.
 #![tactic(auto)]
 
 #[cfg(test)]
@@ -10,5 +11,7 @@ mod gates;
 mod instances;
 #[cfg(test)]
 mod orders;
+#[cfg(test)]
+mod solves;
 #[cfg(test)]
 mod threads;

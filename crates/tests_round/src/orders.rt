@@ -40,7 +40,7 @@ fn add_column(alloc: Global, deck: &mut Deck, j: u16) -> Result<(), Fail>
 }
 
 // Each of 70 columns alone in its row, at most 1, so that each is eligible at the start.
-fn seventy(alloc: Global) -> Result<Deck, Fail> {
+pub(crate) fn seventy(alloc: Global) -> Result<Deck, Fail> {
     let mut deck = Deck::new(
         alloc,
         Name::of(alloc, b"SEVENTY")?,

@@ -1,12 +1,11 @@
 -- What stands on a board, after each of its calls.
-use Rattle.std.proofs.Common.{◌≡◌, ◌≢◌, ◌⊎◌, inl, inr, ℕ, ◌+◌, ◌≤◌, Bool, true, eqb, cond, List, [], ◌∷◌, ◌++◌, length, length-append, append-nil, Option, Some, None, IfSome, false, refl, sym, ◌∙◌, ap, ap₂, subst, arith}
+use Rattle.std.proofs.Common.{◌≡◌, ◌≢◌, ◌⊎◌, inl, inr, ℕ, ◌+◌, ◌≤◌, Bool, true, eqb, cond, List, [], ◌∷◌, ◌++◌, length, length-append, Option, Some, None, IfSome, false, refl, sym, ◌∙◌, ap, ap₂, subst, arith}
 use Rattle.lp_model.specs.declared.Entry.{Entry}
 use Rattle.lp_model.specs.declared.Entry.TheVariants.{Flip, Swap, Turn}
 use Rattle.lp_model.specs.Log.{moves}
 use Rattle.rational.specs.Worked.{settle}
 use Rattle.lp_run.specs.Instance.{Instance, IsWellFormed, row_count}
 use Rattle.lp_run.specs.Listing.{StartFits}
-use Rattle.lp_run.specs.Run.{IsRun}
 use Rattle.lp_run.specs.Solution.{basis_entry}
 use Rattle.lp_run.specs.State.{after, start_of}
 use Rattle.bland_ratio.specs.Pricing.{IsExactChoice}
@@ -14,7 +13,6 @@ use Rattle.bland_ratio.specs.declared.tickets.Choice.{Choice}
 use Rattle.factor_model.specs.Factors.{AreFactors, Factors, most_updates}
 use Rattle.factor_run.specs.Built.{built}
 use Rattle.factor_run.proofs.Building.{built-more, built-start}
-use Rattle.plain_table.proofs.Replays.{leads_one}
 use Rattle.plain_table.specs.Plain.{Plain}
 use Rattle.plain_table.specs.declared.faults.TableFault.{TableFault}
 use Rattle.plain_table.specs.declared.faults.TableFault.TheVariants as table
@@ -42,6 +40,7 @@ use Rattle.two_phase.specs.Inner.Grounds.{BeginsBuilt, FactorsGo, GroundReaches,
 use Rattle.two_phase.specs.Inner.Plains.{HasRisen, IsRunFault, OverflowsFor}
 use Rattle.two_phase.proofs.Counting.{CountsFollow, counts_early, followed_counts, made_counts}
 use Rattle.two_phase.proofs.Grounds.{mode_plain, one_state, plain_cause, plain_keeps, plain_mode, reached_by}
+use Rattle.two_phase.proofs.Numbers.{one_at}
 use Rattle.two_phase.proofs.Spending.{factors_mode}
 
 -- ── what is seen of a board ──
@@ -89,17 +88,12 @@ spent_apart e = cc
 
 -- ── a choice of the board's own number is one of its state ──
 
-front_whole : (log front later : List Entry) → log ≡ front ++ later → length log ≤ length front → front ≡ log
-front_whole log front [] is long = sym (is ∙ append-nil front)
-front_whole log front (e ∷ later) is long = absurd (omega (arith, ap length is, length-append front (e ∷ later)))
-
-pub choice_of_state : {A : Type 0} (w : ℕ) (b : Board A) (choice : Choice) → BoardStands w b → length b.log ≤ choice.number → IsChoiceFor w b choice
+pub choice_of_state : {A : Type 0} (w : ℕ) (b : Board A) (choice : Choice) → BoardStands w b → length b.log ≤ choice.number → IsChoiceFor w b.inst.value (length b.log) choice
     → IsExactChoice w b.inst.value (state_of b) choice
-choice_of_state w b choice h late (front, later, s, is, number, run, exact) =
-    let whole : front ≡ b.log = front_whole b.log front later is (omega (arith, late, number)) in
-    let run' = subst (λ l. IsRun b.inst.value l s) whole run in
-    let same : s ≡ state_of b = leads_one b.inst.value (start_of b.inst.value) b.log s (state_of b) run' (reached_by w b.inst.value b.log b.ground h.stands) in
-    subst (λ s. IsExactChoice w b.inst.value s choice) same exact
+choice_of_state w b choice h late (below, s, there, exact) =
+    let inst = b.inst.value in
+    let same : s ≡ state_of b = one_at inst choice.number (length b.log) s (state_of b) (omega (arith, late, below)) there (b.log, reached_by w inst b.log b.ground h.stands, refl) in
+    subst (λ s. IsExactChoice w inst s choice) same exact
 
 -- ── what a step leaves ──
 

@@ -1,5 +1,5 @@
 -- What an iterate keeps, and why it cannot go on.
-use Rattle.std.proofs.Common.{◌≡◌, ℕ, ◌≤◌, inl, inr, List, length, true, Some, None, sym, ◌∙◌, ap, subst}
+use Rattle.std.proofs.Common.{◌≡◌, ℕ, ◌≤◌, inl, inr, List, length, true, None, sym, subst}
 use Rattle.lp_model.specs.declared.Entry.{Entry}
 use Rattle.rational.specs.Rational.{ℚ}
 use Rattle.rational.specs.Worked.{settle}

@@ -18,7 +18,7 @@ use Rattle.plain_table.specs.Inner.Starts.{basic_start}
 use Rattle.plain_table.proofs.StartSolves.{values_solve}
 use Rattle.two_phase.proofs.Counting.{made_counts}
 use Rattle.two_phase.specs.declared.iterate.Iterate.{Iterate}
-use Rattle.two_phase.specs.Inner.Factoring.{FactorsFrom, IsBasis}
+use Rattle.basis_solves.specs.Bases.{FactorsFrom, IsBasis}
 use Rattle.two_phase.specs.Inner.Iterates.{IsIterate, IsSized}
 use Rattle.two_phase.specs.Inner.Reaching.{IsChosen}
 

@@ -37,7 +37,7 @@ use Rattle.plain_table.specs.Inner.Values.{values_listing}
 use Rattle.plain_table.proofs.Swaps.{flipped_lists, swapped_lists}
 use Rattle.two_phase.specs.declared.decision.Decision.{Decision}
 use Rattle.two_phase.specs.declared.iterate.Iterate.{Iterate}
-use Rattle.two_phase.specs.Inner.Factoring.{IsBasis}
+use Rattle.basis_solves.specs.Bases.{IsBasis}
 use Rattle.two_phase.specs.Inner.Iterates.{AreWorked, HasFollowed, IsEntered, IsIterate, IsSized, IsSpared, IsTaken}
 use Rattle.two_phase.specs.declared.reached.Reached.TheVariants as reached
 use Rattle.two_phase.specs.declared.reached.Reached.{Reached}

@@ -20,7 +20,8 @@ use Rattle.two_phase.specs.Board.{FollowsEntry, Records}
 use Rattle.two_phase.specs.Inner.Grounds.{IsPlain}
 use Rattle.two_phase.proofs.Spending.{factors_mode, true_apart}
 use Rattle.two_phase.specs.Modes.{mode_of}
-use Rattle.two_phase.specs.Works.{ground_owed, move_work, recorded_work, solve_most}
+use Rattle.basis_solves.specs.Works.{solve_most}
+use Rattle.two_phase.specs.Works.{ground_owed, move_work, recorded_work}
 use Rattle.two_phase.proofs.Taking.{moves-more}
 use Rattle.two_phase.specs.Tally.{HasRoundWorked, HasWorked, IsTally}
 

@@ -2,7 +2,8 @@
 use Rattle.std.proofs.Common.{ℕ, ◌≤◌, Bool, true, false, cond, arith}
 use Rattle.two_phase.specs.declared.ground.Ground.{Ground}
 use Rattle.two_phase.specs.declared.ground.Ground.TheVariants as ground
-use Rattle.two_phase.specs.Works.{ground_owed, solve_most}
+use Rattle.basis_solves.specs.Works.{solve_most}
+use Rattle.two_phase.specs.Works.{ground_owed}
 
 -- no more than a solve is owed
 pub owed-most : (m : ℕ) (g : Ground) → ground_owed m g ≤ solve_most m

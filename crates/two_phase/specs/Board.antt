@@ -11,7 +11,7 @@ use Rattle.rational.specs.Worked.{settle}
 use Rattle.exact_frac.specs.Count.{raised}
 use Rattle.lp_run.specs.Instance.{Instance, IsWellFormed, row_count}
 use Rattle.lp_run.specs.Listing.{IsFirstTotal, IsFirstUnfit, StartFits}
-use Rattle.lp_run.specs.Run.{IsRun}
+use Rattle.lp_run.specs.Run.{IsAt, IsRun}
 use Rattle.lp_run.specs.Solution.{Values, basis_entry}
 use Rattle.lp_run.specs.State.{State, start_of}
 use Rattle.lp_run.specs.Step.{EndsFree, EndsInfeasible, EndsOptimal, IsNext}
@@ -113,9 +113,9 @@ HasGivenUp w old new = mode_of new.ground ≡ mode.Plain → HasCause w old.inst
 abbrev pub HasGivenUpFor : {A : Type 0} → ℕ → Board A → Board A → Choice → Type 0
 HasGivenUpFor w old new choice = mode_of new.ground ≡ mode.Plain → HasCause w old.inst.value old.log old.ground ⊎ ((choice.unfit ≡ true) × (choice.number ≡ length old.log))
 
--- the choice is exact for a state of the run, of a number not above the board's
-abbrev pub IsChoiceFor : {A : Type 0} → ℕ → Board A → Choice → Type 0
-IsChoiceFor w b choice = (front later : List Entry) × (s : State) × (b.log ≡ front ++ later) × (length front ≡ choice.number) × IsRun b.inst.value front s × IsExactChoice w b.inst.value s choice
+-- the choice is exact for a state of the instance's run, of a number not above k
+abbrev pub IsChoiceFor : ℕ → Instance → ℕ → Choice → Type 0
+IsChoiceFor w inst k choice = (choice.number ≤ k) × (s : State) × IsAt inst choice.number s × IsExactChoice w inst s choice
 
 -- how the counts of the factors follow an entry: after 64 updates a swap makes them anew at the new number
 abbrev pub FollowsSwap : {A : Type 0} → Board A → Board A → Type 0

@@ -1,10 +1,8 @@
 -- inner: what the parts of a board answer.
 pub mod Decisions
-pub mod Factoring
 pub mod Grounds
 pub mod Iterates
 pub mod Plains
 pub mod Reaching
 pub mod Recording
-pub mod Refusals
 pub mod Works

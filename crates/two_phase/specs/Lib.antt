@@ -1,4 +1,5 @@
 pub mod Board
+pub mod Drafts
 pub mod Inner
 pub mod Modes
 pub mod Spent

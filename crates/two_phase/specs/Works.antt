@@ -1,16 +1,12 @@
 -- How much a round over factors of m rows works, in products and quotients.
-use Rattle.std.specs.Prelude.{ℕ, ◌+◌, ◌*◌, ◌/◌, ◌==◌, if◌then◌else◌}
+use Rattle.std.specs.Prelude.{ℕ, ◌+◌, ◌*◌, if◌then◌else◌}
 use Rattle.lp_model.specs.declared.Entry.TheVariants.{Flip, Swap, Turn}
-use Rattle.factor_model.specs.Factors.{most_updates}
+use Rattle.basis_solves.specs.Works.{follow_work, solve_most}
 use Rattle.two_phase.specs.declared.ground.Ground.{Ground}
 use Rattle.two_phase.specs.declared.ground.Ground.TheVariants as ground
 use Rattle.two_phase.specs.declared.iterate.Iterate.{Iterate}
 use Rattle.two_phase.specs.declared.standing.Recorded.{Recorded}
 use Rattle.two_phase.specs.declared.standing.Recorded.TheVariants as recorded
-
--- a solve for a row or for a column, by factors that have had at most 64 updates
-abbrev pub solve_most : ℕ → ℕ
-solve_most m = (3 * (m * m) + 129 * m) / 2
 
 -- the prices, where they are not worked yet
 abbrev pub owed : ℕ → Iterate → ℕ
@@ -24,10 +20,6 @@ ground_owed m (ground.Plain t) = 0
 -- the column that enters, its limit and the basic values after its move
 abbrev pub move_work : ℕ → ℕ
 move_work m = solve_most m + 3 * m
-
--- the factors after an exchange: an update, or where they have had the most updates a factorisation
-abbrev pub follow_work : ℕ → ℕ → ℕ
-follow_work m updates = if updates == most_updates then m * m * m else m * m
 
 -- the factors after what a record comes to, where they have had so many updates
 abbrev pub recorded_work : ℕ → ℕ → Recorded → ℕ

@@ -232,7 +232,7 @@ impl<A: Arith> Board<A> {
         choice: Choice,
     ) -> Result<Recorded, BoardFault>
         requires stands { BoardStands (A.width self.old.arith) self.old }
-        requires exact { IsChoiceFor (A.width self.old.arith) self.old choice }
+        requires exact { IsChoiceFor (A.width self.old.arith) self.old.inst.value (length self.old.log) choice }
         ensures stands { BoardStands (A.width self.old.arith) self.new }
         ensures same { IsSameRun self.old self.new }
         ensures recorded { IfOk result (Records self.old self.new choice) }

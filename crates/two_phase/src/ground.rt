@@ -8,7 +8,7 @@ ghost use Rattle.bland_ratio.specs.Pricing.{IsExactChoice};
 use crate::iterate::Iterate;
 use crate::plain::{advance_on, replay};
 use crate::reached::Reached;
-use crate::refusal::Refusal;
+use basis_solves::Refusal;
 use bland_ratio::Choice;
 use deck_model::Log;
 use exact_frac::Arith;

@@ -22,17 +22,15 @@ ghost use Rattle.factor_model.specs.Eta.{apply, stored};
 ghost use Rattle.factor_model.specs.Factors.{AreFactors};
 ghost use Rattle.factor_model.specs.Update.{HasPivot};
 ghost use Rattle.factor_run.specs.Built.{entering_column, exchanged, made_anew};
-ghost use Rattle.two_phase.specs.Inner.Factoring.{IsBasis};
-ghost use Rattle.two_phase.specs.Works.{follow_work};
+ghost use Rattle.basis_solves.specs.Bases.{IsBasis};
+ghost use Rattle.basis_solves.specs.Works.{follow_work, solve_most};
 ghost use Rattle.factor_run.specs.Causes.{Cause};
 ghost use Rattle.two_phase.specs.Board.{StartsUnfit};
-ghost use Rattle.two_phase.specs.Inner.Refusals.{Explains, count_after};
+ghost use Rattle.basis_solves.specs.Refusals.{Explains, count_after};
 
 use crate::decision::{Decision, decide};
-use crate::factoring::{factors_of, follow};
 use crate::reached::Reached;
-use crate::refusal::Refusal;
-use crate::solves::{solve_column, solve_prices};
+use basis_solves::{Refusal, factors_of, follow, solve_column, solve_prices};
 use bland_ratio::Leave;
 use deck_model::Log;
 use exact_frac::{Arith, Frac, Unfit};
@@ -62,7 +60,7 @@ pub struct Iterate {
 impl Iterate {
     ghost use Rattle.two_phase.specs.Inner.Iterates.{AreWorked, HasFollowed, HasUnfitPrices, IsEntered, IsIterate, IsIterateOf, IsKept, IsSpared, IsTaken};
     ghost use Rattle.two_phase.specs.Inner.Reaching.{GoesWith, IsChosen, Reaches};
-    ghost use Rattle.two_phase.specs.Works.{move_work, owed, solve_most};
+    ghost use Rattle.two_phase.specs.Works.{move_work, owed};
     ghost use Rattle.two_phase.specs.Inner.Works.{reached_work};
 
     /// Works the prices, where they are not yet worked.

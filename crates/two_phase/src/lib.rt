@@ -21,29 +21,28 @@
 //! **Work.** Of m rows, a step over factors works at most 2m² + 5m products and quotients, twice the entries of the
 //! factors' operations, and m² for an update, or m³ where the factors are made anew.
 //!
-//! It stands on `ftran_btran` for factors, on `factor_run` for what they are along a run, on `bland_ratio` for pricing
-//! and the ratio test, on `plain_table`, and on `run_outcome` for outcomes.
+//! It stands on `basis_solves` for the factors of a state's basis and what is solved with them, on `factor_run` for what they
+//! are along a run, on `bland_ratio` for pricing and the ratio test, on `plain_table`, and on `run_outcome` for outcomes.
 #![tactic(auto)]
 
 mod asking;
 mod board;
-mod columns;
 mod decision;
-mod factoring;
+mod draft;
 mod ground;
 mod iterate;
 mod plain;
 mod reached;
-mod refusal;
 mod shown;
-mod solves;
 mod standing;
+mod switch;
 mod tickets;
 
 pub use board::{Board, CloseFault, Closed, NewFault};
+pub use draft::{Draft, DraftParts, Snapshot};
 pub use ground::Ground;
 pub use iterate::Iterate;
 pub use reached::Reached;
-pub use refusal::Refusal;
 pub use standing::{BoardFault, Course, Mode, Recorded, Standing};
+pub use switch::SwapFault;
 pub use tickets::{costs_ticket, prices_ticket};

@@ -5,7 +5,7 @@ ghost use Rattle.deck_model.specs.Outcome.{outcome_of};
 ghost use Rattle.lp_model.specs.declared.Entry.{Entry};
 ghost use Rattle.lp_run.specs.Ends.{Yields};
 ghost use Rattle.lp_run.specs.Instance.{IsWellFormed, column_count};
-ghost use Rattle.plain_table.specs.Next.{IsTableOf, column as column_of, prices as prices_of};
+ghost use Rattle.plain_table.specs.Next.{IsTableOf, column as column_of};
 ghost use Rattle.run_outcome.specs.Endings.{IsOutcomeCause, count_after};
 ghost use Rattle.two_phase.specs.Inner.Grounds.{GroundStands, GroundStops, ground_state};
 ghost use Rattle.two_phase.specs.Inner.Iterates.{IsIterate};
@@ -91,7 +91,7 @@ fn show_table<A: Arith>(
     ensures unfit { A.unfit_count arith.new ≡ count_after (A.unfit_count arith.old) result }
     ensures work { A.work_count arith.new ≤ A.work_count arith.old + nonzero_costs inst.now }
 {
-    let prices = prices(alloc, inst, table)?;
+    let prices = table.prices(alloc, inst)?;
     let alpha = column(alloc, inst, table, free_column(stop) as usize)?;
     let ending = Ending {
         number,
@@ -113,31 +113,13 @@ fn free_column(stop: Stop) -> u32
     }
 }
 
-// The prices of the rows: the reduced costs of the logicals, negated.
-fn prices(alloc: Global, inst: &Instance, table: &Table) -> Result<Vec<Frac>, AllocError>
-    requires { IsTableOf inst.now table.now }
-    ensures { IfOk result (λ y. y.items ≡ prices_of inst.now table.now) }
-{
-    let structurals = inst.structurals();
-    let mut y = Vec::with_capacity(alloc, inst.rows())?;
-    for row in 0..inst.rows() {
-        y.push(table.cost(structurals + row).negated())?;
-    }
-    Ok(y)
-}
-
-// A column in terms of the table's basis.
-#[tactic(auto, using(exact_frac::specs::Constants::constants))]
+// The column of an end in terms of the table's basis; any list where there is no such column.
 fn column(alloc: Global, inst: &Instance, table: &Table, q: usize) -> Result<Vec<Frac>, AllocError>
     requires table { IsTableOf inst.now table.now }
     ensures { q < column_count inst.now → IfOk result (λ alpha. alpha.items ≡ column_of inst.now table.now q) }
 {
-    let mut alpha = Vec::with_capacity(alloc, inst.rows())?;
     if q >= inst.columns() {
-        return Ok(alpha);
+        return Ok(Vec::new(alloc));
     }
-    for p in 0..inst.rows() {
-        alpha.push(table.entry(p, q))?;
-    }
-    Ok(alpha)
+    table.column(alloc, inst, q)
 }

@@ -7,11 +7,11 @@ ghost use Rattle.bland_ratio.specs.declared.tickets.Pay.TheVariants as pay;
 ghost use Rattle.factor_model.specs.Eta.{stored};
 ghost use Rattle.plain_table.specs.Next.{IsTableOf};
 ghost use Rattle.two_phase.specs.Inner.Iterates.{HasUnfitPrices, IsIterate, IsIterateOf, IsKept};
-ghost use Rattle.two_phase.specs.Inner.Refusals.{Explains, count_after};
+ghost use Rattle.basis_solves.specs.Refusals.{Explains, count_after};
 ghost use Rattle.two_phase.specs.Works.{owed};
 
 use crate::iterate::Iterate;
-use crate::refusal::Refusal;
+use basis_solves::Refusal;
 use bland_ratio::{Pay, Ticket};
 use exact_frac::{Arith, Fracs};
 use instance_model::Instance;

@@ -1,5 +1,5 @@
 -- What the parts of a check answer.
-use Rattle.std.specs.Prelude.{◌≡◌, ◌⊎◌, ℕ, List, Option, IfSome, Err}
+use Rattle.std.specs.Prelude.{◌≡◌, ℕ, List, Option, IfSome, Err}
 use Rattle.lp_model.specs.Deck.{Deck}
 use Rattle.lp_text.specs.declared.Form.{Form}
 use Rattle.lp_text.specs.Report.{Report}
@@ -14,8 +14,8 @@ use Rattle.lp_main.specs.declared.refusal.Refusal.{Refusal}
 use Rattle.lp_main.specs.declared.refusal.Refusal.TheVariants as refusal
 use Rattle.lp_main.specs.declared.status.Answer.{Answer}
 use Rattle.lp_main.specs.declared.status.Answer.TheVariants as answer
-use Rattle.lp_main.specs.Checks.{IsReportCutOff, IsReportFlaw}
-use Rattle.lp_main.specs.FirstFaults.{IsDeckCutOff, IsTextFault}
+use Rattle.lp_main.specs.Checks.{IsBothCutOff, IsReportFlaw}
+use Rattle.lp_main.specs.FirstFaults.{IsTextFault}
 use Rattle.lp_main.specs.Verdicts.{rule_name}
 
 -- the refusal where the reader of reports answers this
@@ -27,7 +27,7 @@ refusal_of_report (fault.At number flaw) = refusal.Report number flaw
 -- why no deck with a report behind it was read
 abbrev pub IsBothCause : Form → Option (List ℕ) → Option (List ℕ) → ℕ → ℕ → Refusal → Type 0
 IsBothCause form text left faults faults' (refusal.Deck fault) = IfSome text (λ t. IsTextFault form t fault)
-IsBothCause form text left faults faults' refusal.Read = IfSome text (λ t. IsDeckCutOff form left t ⊎ IsReportCutOff form left faults faults' t)
+IsBothCause form text left faults faults' refusal.Read = IfSome text (IsBothCutOff form left faults faults')
 IsBothCause form text left faults faults' (refusal.Report number found) = IfSome text (IsReportFlaw form number found)
 IsBothCause form text left faults faults' refusal.Memory = Unit {0}
 IsBothCause form text left faults faults' other = ⊥

@@ -1,11 +1,10 @@
 -- What the parts of the search for what comes next answer.
-use Rattle.std.specs.Prelude.{◌≡◌, ◌≢◌, ℕ, List, Some}
+use Rattle.std.specs.Prelude.{◌≢◌, ℕ, List}
 use Rattle.lp_model.specs.declared.Entry.TheVariants.{Flip, Swap}
-use Rattle.lp_model.specs.declared.Place.{Place}
 use Rattle.rational.specs.Rational.{ℚ, zero_ℚ}
 use Rattle.rational.specs.Sum.{at}
 use Rattle.lp_run.specs.Instance.{Instance}
-use Rattle.lp_run.specs.Listing.{first_unfit, ratio_listing}
+use Rattle.lp_run.specs.Listing.{Listed, ratio_listing}
 use Rattle.lp_run.specs.State.{State, basic}
 use Rattle.lp_run.specs.Step.{IsArtificial, direction}
 use Rattle.bland_ratio.specs.Leave.{Decides}
@@ -25,9 +24,9 @@ StandsOff inst s β p = IsArtificial inst (basic s p) × (at β p ≢ zero_ℚ)
 abbrev pub DecidesAt : Instance → Plain → ℕ → Leave → Type 0
 DecidesAt inst t q = Decides inst t.state q (direction (at t.costs q)) t.values (column inst t q)
 
--- the first distance or ratio of the step of column q that does not fit the width stands here
-abbrev pub HasUnfitRatio : ℕ → Instance → Plain → ℕ → Place → Type 0
-HasUnfitRatio w inst t q here = first_unfit w (ratio_listing inst t.number t.state q (direction (at t.costs q)) t.values (column inst t q)) ≡ Some here
+-- what the ratio test of column q lists, which goes in the direction of its reduced cost
+abbrev pub tested_at : Instance → Plain → ℕ → List Listed
+tested_at inst t q = ratio_listing inst t.number t.state q (direction (at t.costs q)) t.values (column inst t q)
 
 -- what comes next where that limit decides the step of column q
 abbrev pub next_by : ℕ → Leave → Next

@@ -5,7 +5,7 @@ use Rattle.two_phase.specs.declared.ground.Ground.{Ground}
 use Rattle.two_phase.specs.declared.ground.Ground.TheVariants as ground
 use Rattle.two_phase.specs.declared.reached.Reached.{Reached}
 use Rattle.two_phase.specs.declared.reached.Reached.TheVariants as reached
-use Rattle.two_phase.specs.Works.{follow_work}
+use Rattle.basis_solves.specs.Works.{follow_work}
 
 -- for the factors after what a step comes to, where they have had so many updates
 abbrev pub reached_work : ℕ → ℕ → Reached → ℕ

@@ -42,7 +42,7 @@ pub returns-in_default-clause-works : goal.returns-in_default-clause-works
 returns-in_default-clause-works g c =
     let w = g.A.Arith.width c.args.arith.now in
     let old = counts (g.A.Arith.unfit_count c.args.arith.now) (g.A.Arith.work_count c.args.arith.now) in
-    calmly_refused w (transport c.args.size) old old (λ calm. refl) Memory (λ calm. λ e. cc)
+    calmly_refused 0 w (transport c.args.size) old old (λ calm. refl) Memory (λ calm. λ e. cc)
 
 pub returns-in_err-report-clause-works : goal.returns-in_err-report-clause-works
 returns-in_err-report-clause-works g c =
@@ -50,8 +50,8 @@ returns-in_err-report-clause-works g c =
     let old = counts (g.A.Arith.unfit_count c.args.arith.now) (g.A.Arith.work_count c.args.arith.now) in
     let new = counts (g.A.Arith.unfit_count c.report_of.new.arith) (g.A.Arith.work_count c.report_of.new.arith) in
     let d = c.in-Ok.deck in
-    subst (λ d. WorksCalmly w d old new (status_of_end c.from_residual.result)) c.in-Ok.ensures.deck
-    (calmly_handed_on w d old new c.report_of.ensures.calm c.from_residual.result c.in_err-report.field-0.0 c.from_residual.ensures.1
+    subst (λ d. WorksCalmly 0 w d old new (status_of_end c.from_residual.result)) c.in-Ok.ensures.deck
+    (calmly_handed_on 0 w d old new c.report_of.ensures.calm c.from_residual.result c.in_err-report.field-0.0 c.from_residual.ensures.1
     (report_fits all_moves w d c.in_err-report.field-0.0 c.in_err-report.ensures.cause))
 
 pub returns-in_default-summary-clause-works : goal.returns-in_default-summary-clause-works
@@ -60,8 +60,8 @@ returns-in_default-summary-clause-works g c =
     let old = counts (g.A.Arith.unfit_count c.args.arith.now) (g.A.Arith.work_count c.args.arith.now) in
     let new = counts (g.A.Arith.unfit_count c.report_of.new.arith) (g.A.Arith.work_count c.report_of.new.arith) in
     let d = c.in-Ok.deck in
-    subst (λ d. WorksCalmly w d old new status.Memory) c.in-Ok.ensures.deck
-    (calmly_refused w d old new c.report_of.ensures.calm Memory (λ calm. λ e. cc))
+    subst (λ d. WorksCalmly 0 w d old new status.Memory) c.in-Ok.ensures.deck
+    (calmly_refused 0 w d old new c.report_of.ensures.calm Memory (λ calm. λ e. cc))
 
 pub returns-clause-works : goal.returns-clause-works
 returns-clause-works g c =
@@ -69,8 +69,8 @@ returns-clause-works g c =
     let old = counts (g.A.Arith.unfit_count c.args.arith.now) (g.A.Arith.work_count c.args.arith.now) in
     let new = counts (g.A.Arith.unfit_count c.report_of.new.arith) (g.A.Arith.work_count c.report_of.new.arith) in
     let d = c.in-Ok.deck in
-    subst (λ d. WorksCalmly w d old new status.WriteFault) c.in-Ok.ensures.deck
-    (calmly_refused w d old new c.report_of.ensures.calm Write (λ calm. λ e. cc))
+    subst (λ d. WorksCalmly 0 w d old new status.WriteFault) c.in-Ok.ensures.deck
+    (calmly_refused 0 w d old new c.report_of.ensures.calm Write (λ calm. λ e. cc))
 
 pub returns-in-Ok-write_all-clause-works : goal.returns-in-Ok-write_all-clause-works
 returns-in-Ok-write_all-clause-works g c =
@@ -78,5 +78,5 @@ returns-in-Ok-write_all-clause-works g c =
     let old = counts (g.A.Arith.unfit_count c.args.arith.now) (g.A.Arith.work_count c.args.arith.now) in
     let new = counts (g.A.Arith.unfit_count c.report_of.new.arith) (g.A.Arith.work_count c.report_of.new.arith) in
     let d = c.in-Ok.deck in
-    subst (λ d. WorksCalmly w d old new status.Done) c.in-Ok.ensures.deck
-    (calmly_done w d old new c.report_of.ensures.calm c.in_ok-report.ensures.work)
+    subst (λ d. WorksCalmly 0 w d old new status.Done) c.in-Ok.ensures.deck
+    (calmly_done 0 w d old new c.report_of.ensures.calm c.in_ok-report.ensures.work)

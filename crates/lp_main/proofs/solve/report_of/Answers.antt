@@ -15,11 +15,11 @@ returns-in-Ok-clause-calm g c calm =
     c.report_of_shared.ensures.calm (subst (λ w. IsCalm w (instance_of c.args.deck.now)) (sym c.of.ensures.width) calm) ∙ c.in-Ok.ensures.unfit
 
 pub returns-in-Ok-clause-work : goal.returns-in-Ok-clause-work
-returns-in-Ok-clause-work g c calm =
+returns-in-Ok-clause-work g c alone calm =
     if_ok c.report_of_shared.result
     (λ report bound. with_start c.args.deck.now (g.A.Arith.work_count c.args.arith.now) (g.A.Arith.work_count c.of.new.arith) (g.A.Arith.work_count c.report_of_shared.new.arith)
     c.of.ensures.work bound)
-    (c.report_of_shared.ensures.work (subst (λ w. IsCalm w (instance_of c.args.deck.now)) (sym c.of.ensures.width) calm))
+    (c.report_of_shared.ensures.work alone (subst (λ w. IsCalm w (instance_of c.args.deck.now)) (sym c.of.ensures.width) calm))
 
 pub returns-in-Err-Overflow-clause-calm : goal.returns-in-Err-Overflow-clause-calm
 returns-in-Err-Overflow-clause-calm g c calm =

@@ -47,19 +47,19 @@ returns-in-Err-Budget-clause-cause g c =
     (subst (IsCause w inst asked.budget) c.in-Err-Budget.field-0-is c.in-Err-Budget.ensures.solves))
 
 pub returns-in-Ok-clause-calm : goal.returns-in-Ok-clause-calm
-returns-in-Ok-clause-calm g c calm = (c.solve_alone.ensures.calm (subst (IsCalm (g.A.Arith.width c.args.arith.now)) (sym c.requires.shared) calm)).0
+returns-in-Ok-clause-calm g c calm = (c.run.ensures.calm (subst (IsCalm (g.A.Arith.width c.args.arith.now)) (sym c.requires.shared) calm)).0
 
 pub returns-in-Err-Overflow-clause-calm : goal.returns-in-Err-Overflow-clause-calm
-returns-in-Err-Overflow-clause-calm g c calm = (c.solve_alone.ensures.calm (subst (IsCalm (g.A.Arith.width c.args.arith.now)) (sym c.requires.shared) calm)).0
+returns-in-Err-Overflow-clause-calm g c calm = (c.run.ensures.calm (subst (IsCalm (g.A.Arith.width c.args.arith.now)) (sym c.requires.shared) calm)).0
 
 pub returns-in-Err-Budget-clause-calm : goal.returns-in-Err-Budget-clause-calm
-returns-in-Err-Budget-clause-calm g c calm = (c.solve_alone.ensures.calm (subst (IsCalm (g.A.Arith.width c.args.arith.now)) (sym c.requires.shared) calm)).0
+returns-in-Err-Budget-clause-calm g c calm = (c.run.ensures.calm (subst (IsCalm (g.A.Arith.width c.args.arith.now)) (sym c.requires.shared) calm)).0
 
 pub returns-in-Err-Memory-clause-calm : goal.returns-in-Err-Memory-clause-calm
-returns-in-Err-Memory-clause-calm g c calm = (c.solve_alone.ensures.calm (subst (IsCalm (g.A.Arith.width c.args.arith.now)) (sym c.requires.shared) calm)).0
+returns-in-Err-Memory-clause-calm g c calm = (c.run.ensures.calm (subst (IsCalm (g.A.Arith.width c.args.arith.now)) (sym c.requires.shared) calm)).0
 
 pub returns-in-Ok-clause-work : goal.returns-in-Ok-clause-work
-returns-in-Ok-clause-work g c calm =
+returns-in-Ok-clause-work g c alone calm =
     for_all c.report_of_closed.result
     (bounded (g.A.Arith.width c.args.arith.now) c.args.deck.now c.args.shared.value c.requires.shared c.in-Ok.closed c.args.asked.budget c.in-Ok.ensures.solves
-    (g.A.Arith.work_count c.args.arith.now) (g.A.Arith.work_count c.solve_alone.new.arith) c.in-Ok.ensures.work calm)
+    (g.A.Arith.work_count c.args.arith.now) (g.A.Arith.work_count c.run.new.arith) (c.in-Ok.ensures.work alone) calm)

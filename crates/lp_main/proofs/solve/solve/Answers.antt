@@ -67,7 +67,7 @@ returns-in_err-report-clause-works g c =
     let read = is_read c.args.asked.form text d c.load.new.lines.count c.in_ok-deck.ensures.read in
     let result = c.from_residual-in_err-report.result in
     of_text c.args.asked w text d old new (status_of_end result) read
-    (calmly_handed_on w d old new c.report_of.ensures.calm result c.in_err-report.field-0.0 c.from_residual-in_err-report.ensures.1
+    (calmly_handed_on c.args.asked.workers w d old new c.report_of.ensures.calm result c.in_err-report.field-0.0 c.from_residual-in_err-report.ensures.1
     (report_fits c.args.asked w d c.in_err-report.field-0.0 c.in_err-report.ensures.cause))
 
 pub returns-in_err-write-clause-works : goal.returns-in_err-write-clause-works
@@ -80,7 +80,7 @@ returns-in_err-write-clause-works g c =
     let read = is_read c.args.asked.form text d c.load.new.lines.count c.in_ok-deck.ensures.read in
     let result = c.from_residual-in_err-write.result in
     of_text c.args.asked w text d old new (status_of_end result) read
-    (calmly_handed_on w d old new c.report_of.ensures.calm result c.in_err-write.field-0.0 c.from_residual-in_err-write.ensures.1
+    (calmly_handed_on c.args.asked.workers w d old new c.report_of.ensures.calm result c.in_err-write.field-0.0 c.from_residual-in_err-write.ensures.1
     (λ calm. write_fits c.in_err-write.field-0.0 c.in_err-write.ensures.cause))
 
 pub returns-clause-works : goal.returns-clause-works
@@ -91,4 +91,4 @@ returns-clause-works g c =
     let new = counts (g.A.Arith.unfit_count c.report_of.new.arith) (g.A.Arith.work_count c.report_of.new.arith) in
     let d = c.in_ok-deck.deck in
     let read = is_read c.args.asked.form text d c.load.new.lines.count c.in_ok-deck.ensures.read in
-    of_text c.args.asked w text d old new status.Done read (calmly_done w d old new c.report_of.ensures.calm c.in_ok-report.ensures.work)
+    of_text c.args.asked w text d old new status.Done read (calmly_done c.args.asked.workers w d old new c.report_of.ensures.calm c.in_ok-report.ensures.work)

@@ -1,4 +1,4 @@
-use Rattle.std.proofs.Common.{IfErr, refl, sym, subst}
+use Rattle.std.proofs.Common.{refl, sym, subst}
 use Rattle.two_phase.specs.Board.{IsTicketCause}
 use Rattle.two_phase.specs.Inner.Grounds.{WantsTable}
 use Rattle.two_phase.proofs.Grounds.{mode_plain, plain_mode, plain_wants}

@@ -3,8 +3,8 @@ use Rattle.std.proofs.lemmas.List.{with_items_is}
 use Rattle.lp_run.specs.Solution.{ColumnOf}
 use Rattle.factor_run.specs.Causes.{Cause}
 use Rattle.plain_table.proofs.Coming.{handed_on}
-use Rattle.two_phase.specs.Inner.Refusals.{Explains}
-use Rattle.two_phase.proofs.Following.{explained}
+use Rattle.basis_solves.specs.Refusals.{Explains}
+use Rattle.basis_solves.proofs.Following.{explained}
 use Rattle.two_phase.proofs.Iterating.{column_cause, decided_there, form_there, iterate_basis, same_iterate, undecided_cause, undecided_there}
 use Rattle.two_phase.proofs.iterate.Iterate.enter.Goals as goal
 

@@ -7,8 +7,8 @@ use Rattle.factor_run.specs.Causes.{Cause}
 use Rattle.instance_model.specs.Entries.{CanTake}
 use Rattle.plain_table.proofs.Coming.{handed_on}
 use Rattle.two_phase.specs.Inner.Iterates.{IsIterate}
-use Rattle.two_phase.specs.Inner.Refusals.{Explains}
-use Rattle.two_phase.proofs.Following.{explained}
+use Rattle.basis_solves.specs.Refusals.{Explains}
+use Rattle.basis_solves.proofs.Following.{explained}
 use Rattle.two_phase.proofs.Iterating.{iterate_basis}
 use Rattle.two_phase.proofs.Taking.{spared_entered, spared_enters, spared_iterate, spared_worked, statused, swap_basis, swap_can, swap_pivots, swap_refused, swap_taken, swap_unfollowed, swap_within, taken_off}
 use Rattle.two_phase.proofs.iterate.Iterate.exchange.Goals as goal

@@ -3,7 +3,7 @@ use Rattle.lp_run.specs.Instance.{row_count}
 use Rattle.factor_run.specs.Causes.{Cause}
 use Rattle.plain_table.proofs.Coming.{handed_on}
 use Rattle.two_phase.specs.Inner.Iterates.{IsIterate}
-use Rattle.two_phase.specs.Inner.Refusals.{Explains}
+use Rattle.basis_solves.specs.Refusals.{Explains}
 use Rattle.two_phase.proofs.Taking.{flip_refused, flip_taken, statused}
 use Rattle.two_phase.proofs.iterate.Iterate.flip.Goals as goal
 

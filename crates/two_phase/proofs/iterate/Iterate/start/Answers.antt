@@ -6,9 +6,9 @@ use Rattle.factor_run.specs.Built.{made_anew}
 use Rattle.factor_run.proofs.Starting.{start-settles}
 use Rattle.plain_table.proofs.Coming.{handed_on}
 use Rattle.two_phase.specs.Board.{StartsUnfit}
-use Rattle.two_phase.specs.Inner.Factoring.{FactorsFrom}
-use Rattle.two_phase.specs.Inner.Refusals.{Explains}
-use Rattle.two_phase.proofs.Following.{explained}
+use Rattle.basis_solves.specs.Bases.{FactorsFrom}
+use Rattle.basis_solves.specs.Refusals.{Explains}
+use Rattle.basis_solves.proofs.Following.{explained}
 use Rattle.two_phase.proofs.Starting.{start_basis, started_iterate}
 use Rattle.two_phase.proofs.iterate.Iterate.start.Goals as goal
 

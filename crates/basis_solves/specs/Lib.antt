@@ -1,0 +1,3 @@
+pub mod Bases
+pub mod Refusals
+pub mod Works

@@ -1,0 +1,4 @@
+pub mod Judgements
+pub mod Along
+pub mod Ending
+pub mod Answering

@@ -1,0 +1,2 @@
+-- inner: what the parts of an audit answer.
+pub mod Parts

@@ -1,0 +1,4 @@
+pub mod Judged
+pub mod Works
+pub mod Answers
+pub mod Inner

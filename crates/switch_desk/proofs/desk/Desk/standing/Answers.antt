@@ -1,0 +1,5 @@
+use Rattle.switch_desk.proofs.Sessions.{unadded}
+use Rattle.switch_desk.proofs.desk.Desk.standing.Goals as goal
+
+pub returns-clause-mine : goal.returns-clause-mine
+returns-clause-mine g c = unadded _ _ _ _ _ c.give.ensures.mine c.take-held.ensures.pass.1 c.take-held.ensures.number

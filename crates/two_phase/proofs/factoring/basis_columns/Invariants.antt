@@ -1,6 +1,0 @@
-use Rattle.std.proofs.Common.{◌≡◌, map, take}
-use Rattle.two_phase.specs.Inner.Factoring.{sparse_column}
-use Rattle.two_phase.proofs.factoring.basis_columns.Given as goal
-
-abbrev pub invariant-loop-q : goal.invariant-loop-q
-invariant-loop-q l = l.columns.items ≡ map (sparse_column l.inst) (take l.q-index l.basis)

@@ -1,4 +1,0 @@
-use Rattle.two_phase.proofs.factoring.update.Goals as goal
-
-pub returns-in-Ok-clause-represents : goal.returns-in-Ok-clause-represents
-returns-in-Ok-clause-represents g c = c.in-Ok.ensures.represents
