@@ -29,8 +29,9 @@ use std::sync::Arc;
 use std::thread::Threads;
 use two_phase::{Board, BoardFault, CloseFault, Closed, NewFault, Recorded, Standing};
 
-/// The outcome of an instance, by its one Bland run of at most so many moves, over factors of its bases; where a value that
-/// is worked with them does not fit the width, on a plain table, whose rows are worked in several threads where it is large.
+/// The outcome of an instance, by its one Bland run of at most so many moves, over factors of its bases. Where a value that is
+/// worked with them does not fit the width, they are made anew, and where it does not fit so either the run goes on over a plain
+/// table, whose rows are worked in several threads where it is large.
 /// The counts of the arithmetic used come into `arith`; an overflow has raised that of unfit results. On a calm instance, of
 /// m rows and so many entries (the stored entries of the structurals and their costs that are not 0), no result is unfit, and
 /// a run of so many moves takes at most (moves + 4)·(4m² + 256m + entries) + (moves/64 + 1)·m³ products and quotients, less

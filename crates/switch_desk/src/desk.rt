@@ -140,7 +140,7 @@ impl<A: Arith> Desk<A> {
     ///
     /// # Errors
     ///
-    /// In this order: `Plain` where the board works with the plain table, `Older` with its epoch, where the draft's base is not
+    /// In this order: `Plain` where the board has given its factors up, `Older` with its epoch, where the draft's base is not
     /// above it, `Behind` with its number, where the draft's is below it. The draft comes back.
     pub fn swap<R: Wait>(
         &self,

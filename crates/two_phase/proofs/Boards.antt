@@ -13,7 +13,6 @@ use Rattle.bland_ratio.specs.declared.tickets.Choice.{Choice}
 use Rattle.factor_model.specs.Factors.{AreFactors, Factors, most_updates}
 use Rattle.factor_run.specs.Built.{built}
 use Rattle.factor_run.proofs.Building.{built-more, built-start}
-use Rattle.plain_table.specs.Plain.{Plain}
 use Rattle.plain_table.specs.declared.faults.TableFault.{TableFault}
 use Rattle.plain_table.specs.declared.faults.TableFault.TheVariants as table
 use Rattle.run_outcome.specs.declared.stop.Stop.{Stop}
@@ -23,6 +22,8 @@ use Rattle.two_phase.specs.Inner.Recording.{IsTakingCause, noted, noted_course, 
 use Rattle.two_phase.specs.Modes.{mode_of}
 use Rattle.two_phase.specs.Standing.{answer_of, board_fault, standing_of}
 use Rattle.two_phase.specs.declared.board.Board.{Board}
+use Rattle.two_phase.specs.declared.fallback.Fallback.{Fallback}
+use Rattle.two_phase.specs.declared.fallback.Fallback.TheVariants as fallback
 use Rattle.two_phase.specs.declared.ground.Ground.{Ground}
 use Rattle.two_phase.specs.declared.ground.Ground.TheVariants as ground
 use Rattle.two_phase.specs.declared.reached.Reached.{Reached}
@@ -52,16 +53,19 @@ stands_with_factors w b h = by b.ground h.stands h.counts
         → OnFactors g (λ s f. AreFactors (row_count b.inst.value) f (basis_entry b.inst.value s) × (f.updates ≤ most_updates) × (f.base ≤ length b.log))
     by (ground.Factors it) stands counts =
         (stands.factors, stands.few, subst (λ n. n ≤ length b.log) (sym counts.1) h.early)
-    by (ground.Plain t) stands counts = tt
+    by (ground.Plain p) stands counts = tt
 
 -- an end is one of the state's
 stop_standing : (inst : Instance) (budget k : ℕ) (g : Ground) (end : Stop) → GroundStops inst g end → IsStandingOf inst budget k (ground_state g) (standing_of (course.Ended end))
 stop_standing inst budget k (ground.Factors it) stop.Optimal h = (_, _, h.1)
 stop_standing inst budget k (ground.Factors it) stop.Infeasible h = (_, _, h.1)
 stop_standing inst budget k (ground.Factors it) (stop.Free q down) h = (_, _, _, q, h.1.0)
-stop_standing inst budget k (ground.Plain t) stop.Optimal h = (_, _, h)
-stop_standing inst budget k (ground.Plain t) stop.Infeasible h = (_, _, h)
-stop_standing inst budget k (ground.Plain t) (stop.Free q down) h = (_, _, _, q, h.0)
+stop_standing inst budget k (ground.Plain (fallback.Anew it)) stop.Optimal h = (_, _, h.1)
+stop_standing inst budget k (ground.Plain (fallback.Anew it)) stop.Infeasible h = (_, _, h.1)
+stop_standing inst budget k (ground.Plain (fallback.Anew it)) (stop.Free q down) h = (_, _, _, q, h.1.0)
+stop_standing inst budget k (ground.Plain (fallback.Table t)) stop.Optimal h = (_, _, h)
+stop_standing inst budget k (ground.Plain (fallback.Table t)) stop.Infeasible h = (_, _, h)
+stop_standing inst budget k (ground.Plain (fallback.Table t)) (stop.Free q down) h = (_, _, _, q, h.0)
 
 pub stands_so : {A : Type 0} (w : ℕ) (b : Board A) → BoardStands w b → IsStandingOf b.inst.value b.budget (length b.log) (state_of b) (standing_on b)
 stands_so w b h = by b.course h.come
@@ -100,28 +104,28 @@ choice_of_state w b choice h late (below, s, there, exact) =
 -- factors that are built along the log stay so where they are kept
 built_kept : (w : ℕ) (inst : Instance) (log : List Entry) (g g' : Ground) → (IsPlain g → IsPlain g') → KeepsFactors g g' → OnFactors g (λ s f. settle w (built inst log) ≡ Some (Some f))
     → OnFactors g' (λ s f. settle w (built inst log) ≡ Some (Some f))
-built_kept w inst log g (ground.Plain t') stays keeps along = tt
-built_kept w inst log (ground.Plain t) (ground.Factors it') stays keeps along = absurd (stays tt)
+built_kept w inst log g (ground.Plain p') stays keeps along = tt
+built_kept w inst log (ground.Plain p) (ground.Factors it') stays keeps along = absurd (stays tt)
 built_kept w inst log (ground.Factors it) (ground.Factors it') stays keeps along = along ∙ ap (λ f. Some (Some f)) (sym keeps)
 
 -- and where they follow an entry
 built_on : (w : ℕ) (inst : Instance) (log : List Entry) (e : Entry) (g g' : Ground) → GroundStands w inst log g → (IsPlain g → IsPlain g') → FactorsGo w inst (length log) g g' (reached.Entry e)
     → OnFactors g (λ s f. settle w (built inst log) ≡ Some (Some f)) → OnFactors g' (λ s f. settle w (built inst (log ++ e ∷ [])) ≡ Some (Some f))
-built_on w inst log e g (ground.Plain t') stands stays goes along = tt
-built_on w inst log e (ground.Plain t) (ground.Factors it') stands stays goes along = absurd (stays tt)
+built_on w inst log e g (ground.Plain p') stands stays goes along = tt
+built_on w inst log e (ground.Plain p) (ground.Factors it') stands stays goes along = absurd (stays tt)
 built_on w inst log e (ground.Factors it) (ground.Factors it') stands stays goes along = built-more w inst log it.state e it.factors stands.reached along ∙ goes
 
 -- at the start they are
 pub built_begun : (w : ℕ) (inst : Instance) (g : Ground) → BeginsBuilt w inst g → OnFactors g (λ s f. settle w (built inst []) ≡ Some (Some f))
 built_begun w inst (ground.Factors it) made = built-start w inst it.factors made
-built_begun w inst (ground.Plain t) made = tt
+built_begun w inst (ground.Plain p) made = tt
 
 -- the counts of the factors after a step, with those before it
 module _ (updates epoch : ℕ) where
   -- kept factors have them as they were
   kept_counts : (g g' : Ground) → OnFactors g (AreCounts updates epoch) → (IsPlain g → IsPlain g') → KeepsFactors g g' → (noted_epoch g' epoch ≡ epoch) × (noted_updates g' updates ≡ updates)
-  kept_counts g (ground.Plain t') counts stays keeps = (refl, refl)
-  kept_counts (ground.Plain t) (ground.Factors it') counts stays keeps = absurd (stays tt)
+  kept_counts g (ground.Plain p') counts stays keeps = (refl, refl)
+  kept_counts (ground.Plain p) (ground.Factors it') counts stays keeps = absurd (stays tt)
   kept_counts (ground.Factors it) (ground.Factors it') counts stays keeps = (ap (λ (f : Factors). f.base) keeps ∙ counts.1, ap (λ (f : Factors). f.updates) keeps ∙ counts.0)
 
   -- after an entry more they follow it
@@ -133,10 +137,10 @@ module _ (updates epoch : ℕ) where
       × (mode_of g' ≡ mode.Plain → (noted_epoch g' epoch ≡ epoch) × (noted_updates g' updates ≡ updates))
   Follows Turn k g' = (noted_epoch g' epoch ≡ epoch) × (noted_updates g' updates ≡ updates)
 
-  unfollowed : (e : Entry) (k : ℕ) (t : Plain) → Follows e k (ground.Plain t)
-  unfollowed (Flip q) k t = (refl, refl)
-  unfollowed (Swap q p end) k t = ((λ m. absurd cc), (λ m. (refl, refl)))
-  unfollowed Turn k t = (refl, refl)
+  unfollowed : (e : Entry) (k : ℕ) (f : Fallback) → Follows e k (ground.Plain f)
+  unfollowed (Flip q) k f = (refl, refl)
+  unfollowed (Swap q p end) k f = ((λ m. absurd cc), (λ m. (refl, refl)))
+  unfollowed Turn k f = (refl, refl)
 
   by_factors : (e : Entry) (k : ℕ) (it it' : Iterate) → AreCounts updates epoch it.state it.factors → CountsFollow e k it.factors it'.factors → Follows e k (ground.Factors it')
   by_factors (Flip q) k it it' counts h = (h.0 ∙ counts.1, h.1 ∙ counts.0)
@@ -148,20 +152,20 @@ module _ (updates epoch : ℕ) where
 
   module _ (w : ℕ) (inst : Instance) (k : ℕ) (e : Entry) where
     step_counts : (g g' : Ground) → OnFactors g (AreCounts updates epoch) → (IsPlain g → IsPlain g') → FactorsGo w inst k g g' (reached.Entry e) → Follows e (k + 1) g'
-    step_counts g (ground.Plain t') counts stays goes = unfollowed e (k + 1) t'
-    step_counts (ground.Plain t) (ground.Factors it') counts stays goes = absurd (stays tt)
+    step_counts g (ground.Plain p') counts stays goes = unfollowed e (k + 1) p'
+    step_counts (ground.Plain p) (ground.Factors it') counts stays goes = absurd (stays tt)
     step_counts (ground.Factors it) (ground.Factors it') counts stays goes =
         by_factors e (k + 1) it it' counts (followed_counts w inst (after it.state e) (k + 1) it.factors it'.factors e goes)
 
     step_early : (g g' : Ground) → OnFactors g (AreCounts updates epoch) → (IsPlain g → IsPlain g') → FactorsGo w inst k g g' (reached.Entry e) → epoch ≤ k → noted_epoch g' epoch ≤ k + 1
-    step_early g (ground.Plain t') counts stays goes early = omega (arith, early)
-    step_early (ground.Plain t) (ground.Factors it') counts stays goes early = absurd (stays tt)
+    step_early g (ground.Plain p') counts stays goes early = omega (arith, early)
+    step_early (ground.Plain p) (ground.Factors it') counts stays goes early = absurd (stays tt)
     step_early (ground.Factors it) (ground.Factors it') counts stays goes early =
         counts_early e (k + 1) it.factors it'.factors (followed_counts w inst (after it.state e) (k + 1) it.factors it'.factors e goes) (omega (arith, counts.1, early))
 
 own_counts : (g : Ground) (updates epoch : ℕ) → OnFactors g (AreCounts (noted_updates g updates) (noted_epoch g epoch))
 own_counts (ground.Factors it) updates epoch = (refl, refl)
-own_counts (ground.Plain t) updates epoch = tt
+own_counts (ground.Plain p) updates epoch = tt
 
 -- ── a board after a step ──
 
@@ -390,7 +394,7 @@ starts w b log running epoch updates well_formed fits stands made = record {
   where
     by : (g : Ground) → BeginsBuilt w b.inst.value g → OnFactors g (AreCounts 0 0)
     by (ground.Factors it) made = let counts = made_counts w b.inst.value (start_of b.inst.value) 0 it.factors made in (counts.1, counts.0)
-    by (ground.Plain t) made = tt
+    by (ground.Plain p) made = tt
 
 -- with nothing in the log
 pub along_none : (w : ℕ) (inst : Instance) (g : Ground) (log : List Entry) → log ≡ [] → OnFactors g (λ s f. settle w (built inst []) ≡ Some (Some f)) → OnFactors g (λ s f. settle w (built inst log) ≡ Some (Some f))

@@ -16,9 +16,9 @@ module _ (w : ℕ) (inst : Instance) where
   pub calm_ground : IsCalm w inst → (log : List Entry) (g : Ground) → GroundStands w inst log g → OnFactors g (λ s f. settle w (built inst log) ≡ Some (Some f)) → (IsPlain g → ⊥)
       → HasCause w inst log g → ⊥
   calm_ground calm log (ground.Factors it) stands along factors cause = no_cause w inst calm log it.state it.factors stands.reached along cause
-  calm_ground calm log (ground.Plain t) stands along factors cause = factors tt
+  calm_ground calm log (ground.Plain p) stands along factors cause = factors tt
 
   -- prices that do not fit are a cause
   pub wants_cause : (log : List Entry) (g : Ground) → WantsTable w inst g → HasCause w inst log g
   wants_cause log (ground.Factors it) (unpriced, unfit) = prices unfit
-  wants_cause log (ground.Plain t) wants = tt
+  wants_cause log (ground.Plain p) wants = tt

@@ -4,8 +4,8 @@ use Rattle.lp_model.specs.declared.Entry.{Entry}
 use Rattle.lp_run.specs.Instance.{Instance}
 use Rattle.lp_run.specs.Run.{IsRun}
 use Rattle.lp_run.specs.State.{State, start_of}
-use Rattle.plain_table.specs.Plain.{Plain}
 use Rattle.plain_table.proofs.Replays.{leads_one}
+use Rattle.two_phase.specs.declared.fallback.Fallback.{Fallback}
 use Rattle.two_phase.specs.declared.ground.Ground.{Ground}
 use Rattle.two_phase.specs.declared.ground.Ground.TheVariants as ground
 use Rattle.two_phase.specs.declared.reached.Reached.{Reached}
@@ -14,23 +14,23 @@ use Rattle.two_phase.specs.declared.standing.Mode.TheVariants as mode
 use Rattle.two_phase.specs.Modes.{mode_of}
 use Rattle.two_phase.specs.Inner.Grounds.{FactorsGo, GroundReaches, GroundStands, HasCause, IsPlain, IsStill, KeepsFactors, WantsTable, ground_state}
 use Rattle.two_phase.specs.declared.iterate.Iterate.{Iterate}
-use Rattle.two_phase.specs.Inner.Plains.{IsFitted, TableReaches, TableStops}
+use Rattle.two_phase.specs.Inner.Fallbacks.{FallbackReaches}
 use Rattle.two_phase.specs.Inner.Reaching.{Reaches}
+use Rattle.two_phase.proofs.Fallbacks.{fallback_reached}
 
 pub reached_by : (w : ℕ) (inst : Instance) (log : List Entry) (g : Ground) → GroundStands w inst log g → IsRun inst log (ground_state g)
 reached_by w inst log (ground.Factors it) h = h.reached
-reached_by w inst log (ground.Plain t) h = h.stands.table.reached
+reached_by w inst log (ground.Plain p) h = fallback_reached w inst log p h
 
 -- at one log there is one state
 pub one_state : (w w' : ℕ) (inst : Instance) (log : List Entry) (g g' : Ground) → GroundStands w inst log g → GroundStands w' inst log g' → ground_state g ≡ ground_state g'
 one_state w w' inst log g g' h h' = leads_one inst (start_of inst) log (ground_state g) (ground_state g') (reached_by w inst log g h) (reached_by w' inst log g' h')
 
-pub table_ground : (w : ℕ) (inst : Instance) (budget : ℕ) (log : List Entry) (t : Plain) (log' : List Entry) (t' : Plain) → IsFitted w inst log t → (r : Reached) → TableReaches w inst budget log t log' t' r
-    → GroundReaches w inst budget log t.state log' (ground.Plain t') r
-table_ground w inst budget log t log' t' fitted (reached.Entry e) h = h
-table_ground w inst budget log t log' t' fitted (reached.End end) h =
-    (h.0, subst (λ log. IsFitted w inst log t') (sym h.0) (subst (IsFitted w inst log) (sym h.1) fitted), subst (λ t. TableStops inst t end) (sym h.1) h.2)
-table_ground w inst budget log t log' t' fitted reached.Spent h = (h.0, subst (λ log. IsFitted w inst log t') (sym h.0) (subst (IsFitted w inst log) (sym h.1) fitted), h.2)
+pub plain_ground : (w : ℕ) (inst : Instance) (budget : ℕ) (log : List Entry) (s : State) (log' : List Entry) (p' : Fallback) (r : Reached) → FallbackReaches w inst budget log s log' p' r
+    → GroundReaches w inst budget log s log' (ground.Plain p') r
+plain_ground w inst budget log s log' p' (reached.Entry e) h = h
+plain_ground w inst budget log s log' p' (reached.End end) h = h
+plain_ground w inst budget log s log' p' reached.Spent h = h
 
 pub factors_ground : (w : ℕ) (inst : Instance) (budget : ℕ) (log : List Entry) (s : State) (log' : List Entry) (it' : Iterate) (r : Reached) → Reaches w inst budget log s log' it' r
     → GroundReaches w inst budget log s log' (ground.Factors it') r
@@ -51,35 +51,35 @@ pub on_err : {A E P Q : Type 0} (r : Result A E) → (P → Q) → OnErr r P →
 on_err (Ok a) f h = h
 on_err (Err e) f h = f h
 
--- ── the plain table ──
+-- ── where the factors are given up ──
 
 pub mode_plain : (g : Ground) → mode_of g ≡ mode.Plain → IsPlain g
 mode_plain (ground.Factors it) e = absurd cc
-mode_plain (ground.Plain t) e = tt
+mode_plain (ground.Plain p) e = tt
 
 pub plain_mode : (g : Ground) → IsPlain g → mode_of g ≡ mode.Plain
 plain_mode (ground.Factors it) plain = absurd plain
-plain_mode (ground.Plain t) plain = refl
+plain_mode (ground.Plain p) plain = refl
 
 pub plain_cause : (w : ℕ) (inst : Instance) (log : List Entry) (g : Ground) → IsPlain g → HasCause w inst log g
 plain_cause w inst log (ground.Factors it) plain = absurd plain
-plain_cause w inst log (ground.Plain t) plain = tt
+plain_cause w inst log (ground.Plain p) plain = tt
 
 pub plain_wants : (w : ℕ) (inst : Instance) (g : Ground) → IsPlain g → WantsTable w inst g
 plain_wants w inst (ground.Factors it) plain = absurd plain
-plain_wants w inst (ground.Plain t) plain = tt
+plain_wants w inst (ground.Plain p) plain = tt
 
 pub not_plain : (g : Ground) → mode_of g ≡ mode.Factors → IsPlain g → ⊥
 not_plain (ground.Factors it) factors plain = plain
-not_plain (ground.Plain t) factors plain = absurd (cc factors)
+not_plain (ground.Plain p) factors plain = absurd (cc factors)
 
--- the plain table keeps no factors
+-- then there are none to keep
 pub plain_keeps : (g g' : Ground) → IsPlain g' → KeepsFactors g g'
-plain_keeps g (ground.Plain t') plain = tt
+plain_keeps g (ground.Plain p') plain = tt
 plain_keeps g (ground.Factors it') plain = absurd plain
 
 pub plain_goes : (w : ℕ) (inst : Instance) (k : ℕ) (g g' : Ground) (r : Reached) → IsPlain g' → FactorsGo w inst k g g' r
-plain_goes w inst k g (ground.Plain t') r plain = tt
+plain_goes w inst k g (ground.Plain p') r plain = tt
 plain_goes w inst k g (ground.Factors it') r plain = absurd plain
 
 -- ── what is still ──
@@ -92,4 +92,13 @@ still_here w inst log g g' stands same = subst (IsStill w inst log g) (sym same)
   where
     itself : (g : Ground) → KeepsFactors g g
     itself (ground.Factors it) = refl
-    itself (ground.Plain t) = tt
+    itself (ground.Plain p) = tt
+
+-- what stands at one log in one mode, with no factors, is still
+pub plain_still : (w : ℕ) (inst : Instance) (log : List Entry) (g g' : Ground) → GroundStands w inst log g → GroundStands w inst log g' → IsPlain g → IsPlain g' → IsStill w inst log g g'
+plain_still w inst log g g' h h' plain plain' = record {
+  stands = h';
+  state = one_state w w inst log g' g h' h;
+  mode = plain_mode g' plain' ∙ sym (plain_mode g plain);
+  factors = plain_keeps g g' plain';
+}

@@ -1,11 +1,13 @@
 pub mod Boards
 pub mod Counting
 pub mod Deciding
+pub mod Fallbacks
 pub mod Grounds
 pub mod Iterating
 pub mod Moving
 pub mod Numbers
 pub mod Plains
+pub mod Refactoring
 pub mod Rounds
 pub mod Showing
 pub mod Starting

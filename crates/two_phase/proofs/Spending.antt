@@ -18,7 +18,7 @@ use Rattle.two_phase.specs.Works.{recorded_work}
 -- without a cause there are factors, whose updates are counted
 pub updates_there : (w : ℕ) (inst : Instance) (log : List Entry) (g : Ground) (updates epoch : ℕ) → OnFactors g (AreCounts updates epoch) → (HasCause w inst log g → ⊥) → ground_updates g ≡ updates
 updates_there w inst log (ground.Factors it) updates epoch counts none = counts.0
-updates_there w inst log (ground.Plain t) updates epoch counts none = absurd (none tt)
+updates_there w inst log (ground.Plain p) updates epoch counts none = absurd (none tt)
 
 recorded_is : (m updates : ℕ) (r : Reached) → reached_work m updates r ≡ recorded_work m updates (answer_of (Some r))
 recorded_is m updates (reached.Entry (Flip q)) = refl
@@ -39,4 +39,4 @@ recorded_spent m u u' old new owes moved unfit (Some r) same fits rescued work =
 
 pub factors_mode : (g : Ground) → (IsPlain g → ⊥) → mode_of g ≡ mode.Factors
 factors_mode (ground.Factors it) factors = refl
-factors_mode (ground.Plain t) factors = absurd (factors tt)
+factors_mode (ground.Plain p) factors = absurd (factors tt)

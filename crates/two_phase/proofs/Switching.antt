@@ -49,19 +49,19 @@ module _ (w : ℕ) (inst : Instance) (log : List Entry) (d : Draft) (h : IsDraft
 
   drafted_ground : (g g' : Ground) → TakesFactors d.factors g g' → GroundStands w inst log g → GroundStands w inst log g'
   drafted_ground (ground.Factors it) (ground.Factors new) (kept, is) stands = subst (IsIterate w inst log) (sym (changed_is it new d.factors kept is)) (drafted_iterate it stands)
-  drafted_ground (ground.Factors it) (ground.Plain t) takes stands = absurd takes
-  drafted_ground (ground.Plain t) g' takes stands = absurd takes
+  drafted_ground (ground.Factors it) (ground.Plain p) takes stands = absurd takes
+  drafted_ground (ground.Plain p) g' takes stands = absurd takes
 
 -- an end that was reached is one yet
 taken_stops : (inst : Instance) (f : Factors) (end : Stop) (g g' : Ground) → TakesFactors f g g' → GroundStops inst g end → GroundStops inst g' end
 taken_stops inst f end (ground.Factors it) (ground.Factors new) (kept, is) stops = subst (λ it. GroundStops inst (ground.Factors it) end) (sym (changed_is it new f kept is)) stops
-taken_stops inst f end (ground.Factors it) (ground.Plain t) takes stops = absurd takes
-taken_stops inst f end (ground.Plain t) g' takes stops = absurd takes
+taken_stops inst f end (ground.Factors it) (ground.Plain p) takes stops = absurd takes
+taken_stops inst f end (ground.Plain p) g' takes stops = absurd takes
 
 pub taken_state : (f : Factors) (g g' : Ground) → TakesFactors f g g' → ground_state g' ≡ ground_state g
 taken_state f (ground.Factors it) (ground.Factors new) takes = takes.0.state
-taken_state f (ground.Factors it) (ground.Plain t) takes = absurd takes
-taken_state f (ground.Plain t) g' takes = absurd takes
+taken_state f (ground.Factors it) (ground.Plain p) takes = absurd takes
+taken_state f (ground.Plain p) g' takes = absurd takes
 
 taken_come : (inst : Instance) (budget k : ℕ) (f : Factors) (c : Course) (g g' : Ground) → TakesFactors f g g' → HasCome inst budget k g c → HasCome inst budget k g' c
 taken_come inst budget k f course.Running g g' takes come = tt
@@ -70,8 +70,8 @@ taken_come inst budget k f course.Spent g g' takes come = subst (λ s. IsSpentAt
 
 taken_counts : (d : Draft) → DraftStands d → (g g' : Ground) → TakesFactors d.factors g g' → OnFactors g' (AreCounts d.factors.updates d.base)
 taken_counts d h (ground.Factors it) (ground.Factors new) (kept, is) = (ap (λ (f : Factors). f.updates) is, ap (λ (f : Factors). f.base) is ∙ h.base)
-taken_counts d h (ground.Factors it) (ground.Plain t) takes = absurd takes
-taken_counts d h (ground.Plain t) g' takes = absurd takes
+taken_counts d h (ground.Factors it) (ground.Plain p) takes = absurd takes
+taken_counts d h (ground.Plain p) g' takes = absurd takes
 
 pub switched_stands : {A : Type 0} (w : ℕ) (old : Board A) (d : Draft) (g' : Ground) (f : Factors) (epoch updates : ℕ) → IsDraftFor old.inst.value (length old.log) d → length old.log ≤ d.number
     → f ≡ d.factors → epoch ≡ d.base → updates ≡ f.updates → TakesFactors f old.ground g' → BoardStands w old → BoardStands w (record old { ground = g'; epoch = epoch; updates = updates })

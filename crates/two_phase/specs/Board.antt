@@ -93,7 +93,7 @@ HasNoCause w b = HasCause w b.inst.value b.log b.ground → ⊥
 pub record IsSameRun {A : Type 0} (old new : Board A) : Type 0 where
   pub instance : new.inst ≡ old.inst
   pub budget : new.budget ≡ old.budget
-  -- the plain table stays
+  -- mode Plain stays
   pub plain_stays : mode_of old.ground ≡ mode.Plain → mode_of new.ground ≡ mode.Plain
 
 -- log, state, standing, counts and, while there are some, the factors are as they were

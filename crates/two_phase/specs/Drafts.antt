@@ -41,8 +41,8 @@ swap_answer mode.Factors epoch number d =
 -- these factors have come in place of the ones that were stood on, and nothing else has changed
 abbrev pub TakesFactors : Factors → Ground → Ground → Type 0
 TakesFactors f (ground.Factors old) (ground.Factors new) = HasFollowed old new × (new.factors ≡ f)
-TakesFactors f (ground.Factors old) (ground.Plain t) = ⊥
-TakesFactors f (ground.Plain t) new = ⊥
+TakesFactors f (ground.Factors old) (ground.Plain p) = ⊥
+TakesFactors f (ground.Plain p) new = ⊥
 
 -- the draft's factors have come into the board, with their updates, and its base as epoch; all else is as it was
 pub record IsSwitched {A : Type 0} (d : Draft) (old new : Board A) : Type 0 where

@@ -8,9 +8,9 @@ use Rattle.two_phase.specs.declared.standing.Mode.TheVariants as mode
 
 abbrev pub mode_of : Ground → Mode
 mode_of (ground.Factors it) = mode.Factors
-mode_of (ground.Plain t) = mode.Plain
+mode_of (ground.Plain p) = mode.Plain
 
--- the pay of a ticket by the mode: prices with factors, reduced costs with the plain table
+-- the pay of a ticket by the mode: prices while there are factors, reduced costs once they are given up
 abbrev pub IsPaidBy : Mode → Pay → Type 0
 IsPaidBy mode.Factors (pay.Prices y) = Unit {0}
 IsPaidBy mode.Factors (pay.Costs d) = ⊥

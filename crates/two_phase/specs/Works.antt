@@ -12,10 +12,10 @@ use Rattle.two_phase.specs.declared.standing.Recorded.TheVariants as recorded
 abbrev pub owed : ℕ → Iterate → ℕ
 owed m it = if it.is_priced then 0 else solve_most m
 
--- the same of what is stood on; over the plain table nothing is bounded
+-- the same of what is stood on; once factors are given up nothing is bounded
 abbrev pub ground_owed : ℕ → Ground → ℕ
 ground_owed m (ground.Factors it) = owed m it
-ground_owed m (ground.Plain t) = 0
+ground_owed m (ground.Plain p) = 0
 
 -- the column that enters, its limit and the basic values after its move
 abbrev pub move_work : ℕ → ℕ

@@ -7,10 +7,10 @@ ghost use Rattle.factor_run.specs.Bound.{making_work};
 ghost use Rattle.two_phase.specs.Board.{StartsUnfit};
 ghost use Rattle.two_phase.specs.Inner.Plains.{HasRisen, IsRunFault};
 
+use crate::fallback::Fallback;
 use crate::ground::Ground;
 use crate::iterate::Iterate;
-use crate::plain::replay;
-use crate::tickets::{costs_ticket, prices_ticket};
+use crate::tickets::prices_ticket;
 use basis_solves::Refusal;
 use bland_ratio::Ticket;
 use deck_model::Log;
@@ -25,7 +25,7 @@ impl Ground {
     ghost use Rattle.two_phase.specs.Inner.Grounds.{Asks, BeginsBuilt, GroundStands, IsPlain, IsStill, KeepsFactors, WantsTable};
     ghost use Rattle.two_phase.specs.Works.{ground_owed};
     ghost use Rattle.two_phase.specs.Modes.{mode_of};
-    ghost use Rattle.two_phase.specs.Inner.Plains.{OverflowsFor};
+    ghost use Rattle.two_phase.specs.Inner.Plains.{IsCountedFault, OverflowsFor};
     ghost use Rattle.two_phase.specs.declared.standing.Mode.{Mode};
 
     // The ticket of a state over factors, where there are; none where a price does not fit.
@@ -59,9 +59,13 @@ impl Ground {
         }
     }
 
-    // The ticket of a state over the plain table. Where there are factors it is made along the log, and comes in their place
-    // once there is a ticket: after a refusal nothing has changed.
-    fn ask_table<R: Threads + Sync, A: Arith>(
+    /// The ticket of a state with its reduced costs, once the factors are given up. Where there are some, what comes in their
+    /// place is made first, and comes once there is a ticket.
+    ///
+    /// # Errors
+    ///
+    /// `Overflow` with the place of the first value of the run that does not fit the width, `Memory` for want of memory.
+    pub(crate) fn ask_plain<R: Threads + Sync, A: Arith>(
         &mut self,
         rt: &R,
         alloc: Global,
@@ -75,29 +79,29 @@ impl Ground {
         ensures asks { IfOk result (Asks inst.now log.now self.new) }
         ensures plain { OnOk result (IsPlain self.new) }
         ensures stands { OnOk result (GroundStands (A.width arith.old) inst.now log.now self.new) }
-        ensures kept { OnErr result (self.new ≡ self.old) }
-        ensures fault { IfErr result (IsRunFault (A.width arith.old) inst.now log.now) }
-        ensures rose { IfErr result (HasRisen (A.unfit_count arith.old) (A.unfit_count arith.new)) }
+        ensures still { OnErr result (IsStill (A.width arith.old) inst.now log.now self.old self.new) }
+        ensures fault { IfErr result (IsCountedFault (A.width arith.old) inst.now log.now (A.unfit_count arith.old) (A.unfit_count arith.new)) }
         ensures width { A.width arith.new ≡ A.width arith.old }
         ensures unfit { A.unfit_count arith.old ≤ A.unfit_count arith.new }
     {
         match self {
-            Ground::Plain(table) => Ok(costs_ticket(alloc, inst, table)?),
-            Ground::Factors(_) => {
-                let table = replay(rt, alloc, inst, log, arith)?;
-                let ticket = costs_ticket(alloc, inst, &table)?;
-                *self = Ground::Plain(table);
+            Ground::Plain(plain) => plain.ticket(rt, alloc, inst, log, arith),
+            Ground::Factors(iterate) => {
+                let mut plain = Fallback::begin(rt, alloc, inst, log, iterate, arith)?;
+                let ticket = plain.ticket(rt, alloc, inst, log, arith)?;
+                *self = Ground::Plain(plain);
                 Ok(ticket)
             }
         }
     }
 
-    /// The ticket of the state that the log reaches: with its prices, or, where those do not fit, with its reduced costs.
+    /// The ticket of the state that the log reaches: with its prices, or, where those do not fit or the factors are given up,
+    /// with its reduced costs.
     ///
     /// # Errors
     ///
     /// `Overflow` with the place of the first value of the run that does not fit the width, `Memory` for want of memory. It
-    /// is stood on at the same state then, by the same factors or the same table.
+    /// is stood on at the same state then, by the same factors or with none still.
     pub fn ticket<R: Threads + Sync, A: Arith>(
         &mut self,
         rt: &R,
@@ -127,7 +131,7 @@ impl Ground {
         if let Some(ticket) = self.ask_factors(alloc, inst, log, arith)? {
             return Ok(ticket);
         }
-        self.ask_table(rt, alloc, inst, log, arith)
+        self.ask_plain(rt, alloc, inst, log, arith)
     }
 
     /// The ground of the start: factors of its basis.

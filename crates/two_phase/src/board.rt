@@ -123,13 +123,13 @@ impl<A: Arith> Board<A> {
     }
 
     /// The ticket of the board's state, exact for it: with its prices where the board works with factors, else with its
-    /// reduced costs. Where the prices are not worked yet and do not fit the width, and only there, the factors are given up
-    /// for the plain table.
+    /// reduced costs. Where the prices are not worked yet and do not fit the width, and only there, the factors are given up,
+    /// and the mode becomes Plain.
     ///
     /// # Errors
     ///
     /// `Ended` exactly where the run does not go on; `Overflow` with the place of the first value of the run that does not
-    /// fit the width, where the plain table is asked or wanted; `Memory` for want of memory. The board is as it was then,
+    /// fit the width, where the mode is Plain or the factors are given up; `Memory` for want of memory. The board is as it was then,
     /// but for its counts of unfit results and of work.
     pub fn ticket<R: Threads + Sync>(&mut self, rt: &R, alloc: Global) -> Result<Ticket, BoardFault>
         requires stands { BoardStands (A.width self.old.arith) self.old }
@@ -216,9 +216,9 @@ impl<A: Arith> Board<A> {
     }
 
     /// Takes in what follows from a choice: the next entry of the run comes into the log, or the run ends. Where the choice
-    /// is unfit and the board works with factors, and only there, the answer is `Rescued`: they are given up for the plain
-    /// table, and a new choice is wanted. With the plain table an unfit choice is settled by its reduced costs. A swap after
-    /// 64 updates makes the factors anew.
+    /// is unfit and the board works with factors, and only there, the answer is `Rescued`: they are given up, the mode becomes
+    /// Plain, and a new choice is wanted. In mode Plain an unfit choice is settled by the reduced costs. A swap after 64 updates
+    /// makes the factors anew.
     ///
     /// # Errors
     ///

@@ -1,20 +1,20 @@
-//! What a run stands on: factors of its state's basis, or, where they are given up, the plain table.
+//! What a run stands on: factors of its state's basis, or, where they are given up, what it goes on over then.
 ghost use Rattle.std.specs.Prelude.{◌≡◌, ◌+◌, ◌≤◌, ◌↔◌, ℕ, IsTrue, true, false, length, IfErr, IfNone, IfOk, IfSome, OnErr, OnOk};
 ghost use Rattle.lp_model.specs.Log.{moves};
 ghost use Rattle.lp_run.specs.Instance.{IsWellFormed, row_count};
 ghost use Rattle.lp_run.specs.Listing.{StartFits};
 ghost use Rattle.bland_ratio.specs.Pricing.{IsExactChoice};
 
+use crate::fallback::Fallback;
 use crate::iterate::Iterate;
-use crate::plain::{advance_on, replay};
 use crate::reached::Reached;
 use basis_solves::Refusal;
-use bland_ratio::Choice;
+use bland_ratio::{Choice, choose};
 use deck_model::Log;
 use exact_frac::Arith;
 use instance_model::Instance;
 use no_memory::Memory;
-use plain_table::{Table, TableFault};
+use plain_table::TableFault;
 use std::alloc::Global;
 use std::thread::Threads;
 
@@ -23,14 +23,14 @@ use std::thread::Threads;
 pub enum Ground {
     /// Factors of the basis, with the basic values.
     Factors(Iterate),
-    /// The plain table.
-    Plain(Table),
+    /// What the run goes on over once they are given up.
+    Plain(Fallback),
 }
 
 impl Ground {
     ghost use Rattle.two_phase.specs.Inner.Grounds.{FactorsGo, GivesUp, GroundReaches, GroundRescues, GroundStands, HasCause, IsPlain, IsStill, ground_state};
     ghost use Rattle.two_phase.specs.Modes.{mode_of};
-    ghost use Rattle.two_phase.specs.Inner.Plains.{HasRisen, IsRunFault, OverflowsFor};
+    ghost use Rattle.two_phase.specs.Inner.Plains.{HasRisen, IsCountedFault, IsRunFault, OverflowsFor};
     ghost use Rattle.two_phase.specs.Inner.Reaching.{IsChosen};
     ghost use Rattle.two_phase.specs.Works.{ground_owed, move_work};
     ghost use Rattle.two_phase.specs.Inner.Works.{ground_updates, reached_work};
@@ -73,7 +73,7 @@ impl Ground {
         }
     }
 
-    // Gives the factors up, where there are: the plain table is made anew along the log. After a refusal nothing has
+    // Gives the factors up, where there are, for ones that are made anew, or for the plain table. After a refusal nothing has
     // changed.
     fn give_up<R: Threads + Sync, A: Arith>(
         &mut self,
@@ -96,17 +96,50 @@ impl Ground {
     {
         match self {
             Ground::Plain(_) => Ok(()),
-            Ground::Factors(_) => {
-                let table = replay(rt, alloc, inst, log, arith)?;
-                *self = Ground::Plain(table);
+            Ground::Factors(iterate) => {
+                let plain = Fallback::begin(rt, alloc, inst, log, iterate, arith)?;
+                *self = Ground::Plain(plain);
                 Ok(())
             }
         }
     }
 
-    // Goes on over the plain table. Where there are factors it is made along the log, and comes in their place once it has
-    // gone on: after a refusal nothing has changed.
-    fn over_table<R: Threads + Sync, A: Arith>(
+    // Goes on once the factors are given up. Where there are some, what comes in their place is made first, and comes once it
+    // has gone on.
+    fn over_plain<R: Threads + Sync, A: Arith>(
+        &mut self,
+        rt: &R,
+        alloc: Global,
+        inst: &Instance,
+        budget: u64,
+        log: &mut Log,
+        entering: Option<u32>,
+        arith: &mut A,
+    ) -> Result<Reached, TableFault>
+        requires well_formed { IsWellFormed inst.now }
+        requires fits { StartFits (A.width arith.old) inst.now }
+        requires stands { GroundStands (A.width arith.old) inst.now log.old self.old }
+        requires chosen { IsChosen inst.now (ground_state self.old) entering }
+        requires within { moves log.old ≤ budget }
+        ensures reached { IfOk result (λ reached. GroundReaches (A.width arith.old) inst.now budget log.old (ground_state self.old) log.new self.new reached × IsPlain self.new) }
+        ensures refused { OnErr result ((log.new ≡ log.old) × IsStill (A.width arith.old) inst.now log.old self.old self.new) }
+        ensures fault { IfErr result (IsCountedFault (A.width arith.old) inst.now log.old (A.unfit_count arith.old) (A.unfit_count arith.new)) }
+        ensures width { A.width arith.new ≡ A.width arith.old }
+        ensures unfit { A.unfit_count arith.old ≤ A.unfit_count arith.new }
+    {
+        match self {
+            Ground::Plain(plain) => plain.advance(rt, alloc, inst, budget, log, entering, arith),
+            Ground::Factors(iterate) => {
+                let mut plain = Fallback::begin(rt, alloc, inst, log, iterate, arith)?;
+                let reached = plain.advance(rt, alloc, inst, budget, log, entering, arith)?;
+                *self = Ground::Plain(plain);
+                Ok(reached)
+            }
+        }
+    }
+
+    // Goes on, where the factors are given up, by the column that the reduced costs choose.
+    fn settle_unfit<R: Threads + Sync, A: Arith>(
         &mut self,
         rt: &R,
         alloc: Global,
@@ -118,30 +151,22 @@ impl Ground {
         requires well_formed { IsWellFormed inst.now }
         requires fits { StartFits (A.width arith.old) inst.now }
         requires stands { GroundStands (A.width arith.old) inst.now log.old self.old }
+        requires plain { IsPlain self.old }
         requires within { moves log.old ≤ budget }
-        ensures reached { IfOk result (GroundReaches (A.width arith.old) inst.now budget log.old (ground_state self.old) log.new self.new) }
-        ensures plain { OnOk result (IsPlain self.new) }
-        ensures log_kept { OnErr result (log.new ≡ log.old) }
-        ensures kept { OnErr result (self.new ≡ self.old) }
-        ensures fault { IfErr result (IsRunFault (A.width arith.old) inst.now log.old) }
-        ensures rose { IfErr result (HasRisen (A.unfit_count arith.old) (A.unfit_count arith.new)) }
+        ensures reached { IfOk result (λ reached. GroundReaches (A.width arith.old) inst.now budget log.old (ground_state self.old) log.new self.new reached × IsPlain self.new) }
+        ensures refused { OnErr result ((log.new ≡ log.old) × IsStill (A.width arith.old) inst.now log.old self.old self.new) }
+        ensures fault { IfErr result (IsCountedFault (A.width arith.old) inst.now log.old (A.unfit_count arith.old) (A.unfit_count arith.new)) }
         ensures width { A.width arith.new ≡ A.width arith.old }
         ensures unfit { A.unfit_count arith.old ≤ A.unfit_count arith.new }
     {
-        match self {
-            Ground::Plain(table) => advance_on(rt, inst, budget, log, table, arith),
-            Ground::Factors(_) => {
-                let mut table = replay(rt, alloc, inst, log, arith)?;
-                let reached = advance_on(rt, inst, budget, log, &mut table, arith)?;
-                *self = Ground::Plain(table);
-                Ok(reached)
-            }
-        }
+        let ticket = self.ask_plain(rt, alloc, inst, log, arith)?;
+        let choice = choose(inst, &ticket, arith);
+        self.over_plain(rt, alloc, inst, budget, log, choice.stopper, arith)
     }
 
     // Goes on from the state by the column that enters; where none is eligible, to phase two or to the end. Where a value
-    // that is worked with the factors does not fit, the plain table goes on in their place. After a refusal the log, and
-    // what is stood on, is as it was.
+    // that is worked with the factors does not fit, they are given up. After a refusal the log is as it was, and what is
+    // stood on but for its prices and, where they are given up, its factors.
     fn advance<R: Threads + Sync, A: Arith>(
         &mut self,
         rt: &R,
@@ -175,10 +200,10 @@ impl Ground {
         if let Some(reached) = self.over_factors(alloc, inst, budget, log, entering, arith)? {
             return Ok(reached);
         }
-        self.over_table(rt, alloc, inst, budget, log, arith)
+        self.over_plain(rt, alloc, inst, budget, log, entering, arith)
     }
 
-    /// Whether the plain table is stood on.
+    /// Whether the factors are given up.
     pub fn is_plain(&self) -> bool
         ensures { IsTrue result ↔ IsPlain self.now }
     {
@@ -189,12 +214,12 @@ impl Ground {
     }
 
     /// Takes in what follows from a choice that is exact for the state. None where it is unfit and met factors: they are
-    /// given up then, and a new choice is wanted. Over the plain table an unfit choice is settled by the reduced costs.
+    /// given up then, and a new choice is wanted. Once they are given up an unfit choice is settled by the reduced costs.
     ///
     /// # Errors
     ///
     /// `Overflow` with the place of the first value of the run that does not fit the width, `Memory` for want of memory.
-    /// The log is as it was then, and it is stood on at the same state, by the same factors or the same table.
+    /// The log is as it was then, and it is stood on at the same state, by the same factors or with none still.
     pub fn record<R: Threads + Sync, A: Arith>(
         &mut self,
         rt: &R,
@@ -229,7 +254,7 @@ impl Ground {
     {
         if choice.unfit {
             if self.is_plain() {
-                let reached = self.over_table(rt, alloc, inst, budget, log, arith)?;
+                let reached = self.settle_unfit(rt, alloc, inst, budget, log, arith)?;
                 return Ok(Some(reached));
             }
             self.give_up(rt, alloc, inst, log, arith)?;

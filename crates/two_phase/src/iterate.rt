@@ -531,7 +531,7 @@ impl Iterate {
     }
 
     // The iterate of these parts, whose prices are not worked.
-    fn of(
+    pub(crate) fn of(
         alloc: Global,
         rows: usize,
         state: State,

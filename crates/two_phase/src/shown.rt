@@ -7,11 +7,13 @@ ghost use Rattle.lp_run.specs.Ends.{Yields};
 ghost use Rattle.lp_run.specs.Instance.{IsWellFormed, column_count};
 ghost use Rattle.plain_table.specs.Next.{IsTableOf, column as column_of};
 ghost use Rattle.run_outcome.specs.Endings.{IsOutcomeCause, count_after};
+ghost use Rattle.two_phase.specs.Inner.Fallbacks.{FallbackStands, FallbackStops, fallback_state};
 ghost use Rattle.two_phase.specs.Inner.Grounds.{GroundStands, GroundStops, ground_state};
 ghost use Rattle.two_phase.specs.Inner.Iterates.{IsIterate};
 ghost use Rattle.two_phase.specs.Inner.Plains.{IsFitted, TableStops, free_column};
 ghost use Rattle.two_phase.specs.Inner.Reaching.{StopsAt};
 
+use crate::fallback::Fallback;
 use crate::ground::Ground;
 use crate::iterate::Iterate;
 use deck_model::Outcome;
@@ -41,7 +43,31 @@ pub fn show<A: Arith>(
 {
     match ground {
         Ground::Factors(iterate) => show_iterate(alloc, inst, number, iterate, stop, arith),
-        Ground::Plain(table) => show_table(alloc, inst, number, table, stop, arith),
+        Ground::Plain(fallback) => show_fallback(alloc, inst, number, fallback, stop, arith),
+    }
+}
+
+// The outcome where the factors are given up.
+fn show_fallback<A: Arith>(
+    alloc: Global,
+    inst: &Instance,
+    number: u64,
+    fallback: &Fallback,
+    stop: Stop,
+    arith: &mut A,
+) -> Result<Outcome, OutcomeFault>
+    requires well_formed { IsWellFormed inst.now }
+    requires stands { (w : ℕ) × (log : List Entry) × FallbackStands w inst.now log fallback.now }
+    requires stops { FallbackStops inst.now fallback.now stop }
+    ensures outcome { IfOk result (λ outcome. Yields inst.now (fallback_state fallback.now) (outcome_of outcome)) }
+    ensures fault { IfErr result (λ fault. (log : List Entry) → length log ≡ number → IsOutcomeCause (A.width arith.old) inst.now log (fallback_state fallback.now) fault) }
+    ensures width { A.width arith.new ≡ A.width arith.old }
+    ensures unfit { A.unfit_count arith.new ≡ count_after (A.unfit_count arith.old) result }
+    ensures work { A.work_count arith.new ≤ A.work_count arith.old + nonzero_costs inst.now }
+{
+    match fallback {
+        Fallback::Anew(iterate) => show_iterate(alloc, inst, number, iterate, stop, arith),
+        Fallback::Table(table) => show_table(alloc, inst, number, table, stop, arith),
     }
 }
 

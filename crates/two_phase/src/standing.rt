@@ -28,7 +28,7 @@ pub enum Standing {
 pub enum Mode {
     /// Factors of the basis.
     Factors,
-    /// The plain table.
+    /// The basis factored anew, or the plain table: the factors are given up.
     Plain,
 }
 
@@ -48,7 +48,7 @@ pub enum Course {
 pub enum Recorded {
     /// The entry is in the log.
     Entry(Entry),
-    /// The choice was unfit, and the factors are given up for the plain table: a new choice is wanted.
+    /// The choice was unfit, and the factors are given up: a new choice is wanted.
     Rescued,
     /// The run has ended, or its budget is spent.
     Ended(Standing),

@@ -18,7 +18,7 @@ use std::alloc::Global;
 /// Why a draft's factors did not come into a board; the draft comes back.
 #[derive(Drop)]
 pub enum SwapFault {
-    /// The board works with the plain table.
+    /// The board has given its factors up.
     Plain(Draft),
     /// The draft's factors were made no later than this number, which is the board's epoch.
     Older(Draft, u64),
@@ -65,8 +65,8 @@ impl<A: Arith> Board<A> {
     ///
     /// # Errors
     ///
-    /// In this order: `Plain` where the board works with the plain table, `Older` where the draft's base is not above the
-    /// epoch, `Behind` where the draft's number is below the board's. The draft comes back, and the board is as it was.
+    /// In this order: `Plain` where the board has given its factors up, `Older` where the draft's base is not above the epoch,
+    /// `Behind` where the draft's number is below the board's. The draft comes back, and the board is as it was.
     pub fn swap(&mut self, draft: Draft) -> Result<(), SwapFault>
         requires { IsDraftFor self.old.inst.value (length self.old.log) draft }
         ensures answer { result ≡ swap_answer (mode_of self.old.ground) self.old.epoch (length self.old.log) draft }
@@ -100,7 +100,7 @@ impl Ground {
     {
         match self {
             Ground::Factors(iterate) => &iterate.state,
-            Ground::Plain(table) => table.state(),
+            Ground::Plain(plain) => plain.state(),
         }
     }
 

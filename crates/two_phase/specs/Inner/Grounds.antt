@@ -1,4 +1,4 @@
--- What a run stands on: factors of its state's basis, or the plain table.
+-- What a run stands on: factors of its state's basis, or, where they are given up, what it goes on over then.
 use Rattle.std.specs.Prelude.{◌≡◌, ℕ, ◌≤◌, List, [], ◌∷◌, ◌++◌, length, Bool, true, Option, Some, None}
 use Rattle.rational.specs.Worked.{settle}
 use Rattle.lp_model.specs.declared.Entry.{Entry}
@@ -18,27 +18,27 @@ use Rattle.two_phase.specs.declared.reached.Reached.TheVariants as reached
 use Rattle.run_outcome.specs.declared.stop.Stop.{Stop}
 use Rattle.two_phase.specs.Modes.{IsPaidBy, mode_of}
 use Rattle.two_phase.specs.Spent.{IsSpentAt}
+use Rattle.two_phase.specs.Inner.Fallbacks.{FallbackStands, FallbackStops, fallback_state}
 use Rattle.two_phase.specs.Inner.Iterates.{HasUnfitPrices, IsIterate}
-use Rattle.two_phase.specs.Inner.Plains.{IsFitted, TableStops}
 use Rattle.two_phase.specs.Inner.Reaching.{GoesWith, StopsAt}
 
 abbrev pub ground_state : Ground → State
 ground_state (ground.Factors it) = it.state
-ground_state (ground.Plain t) = t.state
+ground_state (ground.Plain p) = fallback_state p
 
 -- it stands at the state that the log reaches
 abbrev pub GroundStands : ℕ → Instance → List Entry → Ground → Type 0
 GroundStands w inst log (ground.Factors it) = IsIterate w inst log it
-GroundStands w inst log (ground.Plain t) = IsFitted w inst log t
+GroundStands w inst log (ground.Plain p) = FallbackStands w inst log p
 
 abbrev pub IsPlain : Ground → Type 0
 IsPlain (ground.Factors it) = ⊥
-IsPlain (ground.Plain t) = Unit {0}
+IsPlain (ground.Plain p) = Unit {0}
 
 -- the run ends so at its state
 abbrev pub GroundStops : Instance → Ground → Stop → Type 0
 GroundStops inst (ground.Factors it) end = StopsAt inst it end
-GroundStops inst (ground.Plain t) end = TableStops inst t end
+GroundStops inst (ground.Plain p) end = FallbackStops inst p end
 
 -- a step from the state s of a log leads to where the log has the next entry, or it is still at the log
 abbrev pub GroundReaches : ℕ → Instance → ℕ → List Entry → State → List Entry → Ground → Reached → Type 0
@@ -49,7 +49,7 @@ GroundReaches w inst budget log s log' new reached.Spent = (log' ≡ log) × Gro
 -- what holds of the factors, where they are stood on
 abbrev pub OnFactors : Ground → (State → Factors → Type 0) → Type 0
 OnFactors (ground.Factors it) P = P it.state it.factors
-OnFactors (ground.Plain t) P = Unit {0}
+OnFactors (ground.Plain p) P = Unit {0}
 
 -- where there are factors before and after, they are the same
 abbrev pub KeepsFactors : Ground → Ground → Type 0
@@ -70,10 +70,10 @@ pub record IsStill (w : ℕ) (inst : Instance) (log : List Entry) (old new : Gro
   pub mode : mode_of new ≡ mode_of old
   pub factors : KeepsFactors old new
 
--- a ticket is of the plain table: it is stood on, or the prices are yet to be worked, and do not fit
+-- a ticket has reduced costs: the factors are given up, or the prices are yet to be worked, and do not fit
 abbrev pub WantsTable : ℕ → Instance → Ground → Type 0
 WantsTable w inst (ground.Factors it) = HasUnfitPrices w inst it
-WantsTable w inst (ground.Plain t) = Unit {0}
+WantsTable w inst (ground.Plain p) = Unit {0}
 
 -- the ticket is of the log's number and exact for the state that is stood on, with prices or reduced costs by what is stood on
 pub record Asks (inst : Instance) (log : List Entry) (g : Ground) (ticket : Ticket) : Type 0 where
@@ -81,15 +81,15 @@ pub record Asks (inst : Instance) (log : List Entry) (g : Ground) (ticket : Tick
   pub number : ticket.number ≡ length log
   pub paid : IsPaidBy (mode_of g) ticket.pay
 
--- where an unfit choice leads to no step, the factors are given up for it; to a step it leads from the plain table alone
+-- where an unfit choice leads to no step, the factors are given up for it; to a step it leads where they were given up before
 abbrev pub GroundRescues : Bool → ℕ → Instance → List Entry → Ground → List Entry → Ground → Option Reached → Type 0
 GroundRescues unfit w inst log old log' new None = (unfit ≡ true) × (IsPlain old → ⊥) × IsPlain new × (log' ≡ log) × GroundStands w inst log new
 GroundRescues unfit w inst log old log' new (Some reached) = unfit ≡ true → IsPlain old
 
--- a value that is worked with its factors does not fit; the plain table has no such cause
+-- a value that is worked with its factors does not fit; factors that are given up have no such cause
 abbrev pub HasCause : ℕ → Instance → List Entry → Ground → Type 0
 HasCause w inst log (ground.Factors it) = Cause w inst (length log) it.state it.factors
-HasCause w inst log (ground.Plain t) = Unit {0}
+HasCause w inst log (ground.Plain p) = Unit {0}
 
 -- the factors are given up for a cause alone
 abbrev pub GivesUp : ℕ → Instance → List Entry → Ground → Ground → Type 0

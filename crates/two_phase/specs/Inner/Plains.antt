@@ -51,6 +51,10 @@ abbrev pub HasRisen : ℕ → ℕ → TableFault → Type 0
 HasRisen old new fault.Memory = Unit {0}
 HasRisen old new (fault.Overflow here) = raised old 1 ≤ new
 
+-- the two in one
+abbrev pub IsCountedFault : ℕ → Instance → List Entry → ℕ → ℕ → TableFault → Type 0
+IsCountedFault w inst log before after fault = IsRunFault w inst log fault × HasRisen before after fault
+
 -- an overflow comes only with a cause
 abbrev pub OverflowsFor : Type 0 → TableFault → Type 0
 OverflowsFor cause fault.Memory = Unit {0}

@@ -19,11 +19,11 @@ noted_course (Some reached) before = course_after reached
 
 abbrev pub noted_epoch : Ground → ℕ → ℕ
 noted_epoch (ground.Factors it) before = it.factors.base
-noted_epoch (ground.Plain t) before = before
+noted_epoch (ground.Plain p) before = before
 
 abbrev pub noted_updates : Ground → ℕ → ℕ
 noted_updates (ground.Factors it) before = it.factors.updates
-noted_updates (ground.Plain t) before = before
+noted_updates (ground.Plain p) before = before
 
 abbrev pub noted : {A : Type 0} → Option Reached → Board A → Board A
 noted gone b = record b { course = noted_course gone b.course; epoch = noted_epoch b.ground b.epoch; updates = noted_updates b.ground b.updates }

@@ -17,4 +17,4 @@ reached_work m updates reached.Spent = 0
 
 abbrev pub ground_updates : Ground → ℕ
 ground_updates (ground.Factors it) = it.factors.updates
-ground_updates (ground.Plain t) = 0
+ground_updates (ground.Plain p) = 0

@@ -17,9 +17,9 @@ returns-in-Factors-clause-fault g c =
 
 pub returns-in-Plain-clause-outcome : goal.returns-in-Plain-clause-outcome
 returns-in-Plain-clause-outcome g c =
-    subst (λ x. IfOk c.show_table.result (λ outcome. Yields c.args.inst.now (ground_state x) (outcome_of outcome))) (sym c.in-Plain.is) c.show_table.ensures.outcome
+    subst (λ x. IfOk c.show_fallback.result (λ outcome. Yields c.args.inst.now (ground_state x) (outcome_of outcome))) (sym c.in-Plain.is) c.show_fallback.ensures.outcome
 
 pub returns-in-Plain-clause-fault : goal.returns-in-Plain-clause-fault
 returns-in-Plain-clause-fault g c =
-    subst (λ x. IfErr c.show_table.result (λ fault. (log : List Entry) → length log ≡ c.args.number → IsOutcomeCause (g.A.Arith.width c.args.arith.now) c.args.inst.now log (ground_state x) fault))
-    (sym c.in-Plain.is) c.show_table.ensures.fault
+    subst (λ x. IfErr c.show_fallback.result (λ fault. (log : List Entry) → length log ≡ c.args.number → IsOutcomeCause (g.A.Arith.width c.args.arith.now) c.args.inst.now log (ground_state x) fault))
+    (sym c.in-Plain.is) c.show_fallback.ensures.fault
