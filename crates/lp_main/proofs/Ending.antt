@@ -46,6 +46,7 @@ nothing_read (Some (task.Solve asked)) input = unread asked.form [] input.bytes
 nothing_read (Some (task.Check form)) input = tt
 nothing_read (Some (task.Deck form)) input = unread form [] input.bytes
 nothing_read (Some (task.Make n)) input = refl
+nothing_read (Some (task.Range form)) input = unread form [] input.bytes
 nothing_read (Some (task.Audit form)) input = tt
 
 -- why nothing was served

@@ -12,3 +12,4 @@ pub mod LastStates
 pub mod Behind
 pub mod Judging
 pub mod Audits
+pub mod Ranging

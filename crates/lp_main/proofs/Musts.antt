@@ -21,7 +21,7 @@ use Rattle.lp_main.specs.Ends.{IsCause, MayReply}
 use Rattle.lp_main.specs.FaultLines.{fault_line}
 use Rattle.lp_main.specs.Refusal.{line_of, status_of_refusal}
 use Rattle.lp_main.specs.Reply.{gives, refuses}
-use Rattle.lp_main.specs.Runs.{MustAnswer, MustAnswerTo, MustAudit, MustLayOut, MustSolve}
+use Rattle.lp_main.specs.Runs.{MustAnswer, MustAnswerTo, MustAudit, MustLayOut, MustRange, MustSolve}
 use Rattle.lp_main.specs.Solves.{IsShort}
 use Rattle.lp_main.specs.Summaries.{summary_budget}
 use Rattle.lp_main.specs.World.{Stream}
@@ -76,6 +76,8 @@ module _ (w : ℕ) (Said : List ℕ → Type 0) where
   must_memory (task.Deck form) None = tt
   must_memory (task.Deck form) (Some x) = of_memory Said (λ d. MustLayOut (deck_text form d) status.Memory Said) (reading_of form x) (λ d. without_memory (deck_text form d))
   must_memory (task.Make n) text = λ has. inl (inr refl)
+  must_memory (task.Range form) None = tt
+  must_memory (task.Range form) (Some x) = of_memory Said (λ d. MustRange w d status.Memory) (reading_of form x) (λ d has. inl (inr refl))
   must_memory (task.Audit form) None = tt
   must_memory (task.Audit form) (Some x) = of_memory Said (λ d. MustAudit form w x status.Memory) (reading_of form x) (λ d no_flaw fits. inr (inr refl))
 
@@ -95,6 +97,10 @@ module _ (w : ℕ) (Said : List ℕ → Type 0) where
   must_give (task.Deck form) (Some x) answer.Refused bytes h = absurd h
   must_give (task.Make n) text answer.Done bytes h = λ has. inl (inl refl)
   must_give (task.Make n) text answer.Refused bytes h = absurd h
+  must_give (task.Range form) None a bytes h = tt
+  must_give (task.Range form) (Some x) answer.Done bytes (d, line, read, ranged) =
+      of_deck Said (λ d. MustRange w d status.Done) (reading_of form x) d line status.Done read (λ has. inl (inl refl))
+  must_give (task.Range form) (Some x) answer.Refused bytes h = absurd h
   must_give (task.Audit form) None a bytes h = tt
   must_give (task.Audit form) (Some x) answer.Done bytes (d, report, judgement, tells, audited, is, line) =
       of_deck Said (λ d. MustAudit form w x status.Done) (reading_of form x) d tells.behind.line status.Done tells.behind.deck (λ no_flaw fits. inl refl)
@@ -131,6 +137,18 @@ module _ (w : ℕ) (Said : List ℕ → Type 0) where
   must_refuse (task.Make n) text (refusal.Overflow here) h says = overflowed summary_budget w (transport n) here h
   must_refuse (task.Make n) text (refusal.Budget k) h says = over_budget summary_budget w (transport n) k h
   must_refuse (task.Make n) text other h says = absurd h
+  must_refuse (task.Range form) None r h says = tt
+  must_refuse (task.Range form) (Some x) (refusal.Deck fault) h says =
+      let k = named fault (HasFault form x) h in of_fault Said (λ d. MustRange w d status.BadInput) (reading_of form x) k.0 k.1 (subst Said k.2 says)
+  must_refuse (task.Range form) (Some x) (refusal.Overflow here) (d, line, read, unfit) says =
+      of_deck Said (λ d. MustRange w d status.Overflow) (reading_of form x) d line status.Overflow read
+      (λ has. inr (refl, λ fits ranged. not_unfit (instance_of d) w summary_budget here fits unfit))
+  must_refuse (task.Range form) (Some x) (refusal.RangeUnfit place name) (d, line, read, unfit) says =
+      of_deck Said (λ d. MustRange w d status.Overflow) (reading_of form x) d line status.Overflow read (λ has. inr (refl, λ fits ranged. ranged place name unfit))
+  must_refuse (task.Range form) (Some x) (refusal.Budget n) (d, line, read, short) says =
+      of_deck Said (λ d. MustRange w d status.Budget) (reading_of form x) d line status.Budget read
+      (λ has. absurd (not_spent (instance_of d) has.0 has.1 has.2 summary_budget has.3 short.1))
+  must_refuse (task.Range form) (Some x) other h says = absurd h
   must_refuse (task.Audit form) None r h says = tt
   must_refuse (task.Audit form) (Some x) (refusal.Deck fault) h says =
       let k = named fault (HasFault form x) h in of_fault Said (λ d. MustAudit form w x status.BadInput) (reading_of form x) k.0 k.1 (subst Said k.2 says)

@@ -42,15 +42,15 @@ module _ (asked : Asked) (old new : Option (List ℕ)) (d : Deck) (report : Repo
       (write_cause w input input' e cause (Done, text_of_report d report, is_report input.bytes read, appended))
 
 -- what holds of the deck that was read holds of the text's deck
-deck_with : (asked : Asked) (P : Deck → Type 0) (d : Deck) (text : Option (List ℕ)) → IfSome text (λ t. IsRead asked.form t d) → P d → IfSome text (IsDeckWith asked P)
-deck_with asked P d None read h = tt
-deck_with asked P d (Some t) read h = (d, read.0, read.1, h)
+pub deck_with : (form : Form) (P : Deck → Type 0) (d : Deck) (text : Option (List ℕ)) → IfSome text (λ t. IsRead form t d) → P d → IfSome text (IsDeckWith form P)
+deck_with form P d None read h = tt
+deck_with form P d (Some t) read h = (d, read.0, read.1, h)
 
 pub report_cause : (asked : Asked) (w : ℕ) (e : Refusal) (input input' : Stream) (old : Option (List ℕ)) (d : Deck)
     → IfSome input.bytes (λ t. IsRead asked.form t d) → IsReportCause asked w d e → IsCause (Some (Solve asked)) w input input' old old e
 report_cause asked w (refusal.Overflow here) input input' old d read cause =
-    (deck_with asked (λ d. Overflows w asked.budget (instance_of d) here) d input.bytes read cause.0, refl)
-report_cause asked w (refusal.Budget n) input input' old d read cause = (deck_with asked (IsShort asked.budget n) d input.bytes read cause, refl)
+    (deck_with asked.form (λ d. Overflows w asked.budget (instance_of d) here) d input.bytes read cause.0, refl)
+report_cause asked w (refusal.Budget n) input input' old d read cause = (deck_with asked.form (IsShort asked.budget n) d input.bytes read cause, refl)
 report_cause asked w refusal.Memory input input' old d read cause = inl refl
 report_cause asked w other input input' old d read cause = absurd cause
 

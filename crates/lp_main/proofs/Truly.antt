@@ -1,9 +1,14 @@
 -- From what is written to what is true of the deck.
-use Rattle.std.proofs.Common.{◌≡◌, ◌≢◌, ℕ, List, Option, Some, None, sym, subst}
+use Rattle.std.proofs.Common.{◌≡◌, ◌≢◌, ℕ, List, [], ◌∷◌, Option, Some, None, sym, ◌∙◌, subst}
 use Rattle.io_ends.specs.Bytes.{Appends}
+use Rattle.lp_model.specs.declared.Entry.{Entry}
 use Rattle.lp_model.specs.Basis.{Basis}
 use Rattle.lp_model.specs.Deck.{Deck}
 use Rattle.lp_model.specs.Outcome.{Outcome, infeasible, optimal, unbounded}
+use Rattle.lp_run.specs.Ends.{HasOutcome, Yields}
+use Rattle.lp_run.specs.Instance.{Instance, instance_of}
+use Rattle.lp_run.specs.Run.{IsRun, Leads}
+use Rattle.lp_run.specs.State.{State, after, start_of}
 use Rattle.lp_laws.proofs.WeakDuality.{weak}
 use Rattle.lp_laws.proofs.FarkasGap.{gap}
 use Rattle.lp_laws.proofs.AlongRays.{endless}
@@ -51,6 +56,15 @@ audited_truly : (d : Deck) (report : Report) (judgement : Audit) → IsAudited d
 audited_truly d report (audit.Yes k) h done = h.1
 audited_truly d report other h done = absurd (cc done)
 
+-- a log comes to one state
+one_state : (inst : Instance) (log : List Entry) (s t t' : State) → Leads inst s log t → Leads inst s log t' → t ≡ t'
+one_state inst [] s t t' leads leads' = sym leads ∙ leads'
+one_state inst (e ∷ log) s t t' leads leads' = one_state inst log (after s e) t t' leads.1 leads'.1
+
+-- the state that a whole run comes to yields its outcome
+yields_at : (inst : Instance) (log : List Entry) (o : Outcome) → HasOutcome inst log o → (last : State) → IsRun inst log last → Yields inst last o
+yields_at inst log o (s, run, yields) last run' = subst (λ s. Yields inst s o) (one_state inst log (start_of inst) s last run run') yields
+
 module _ (w : ℕ) (old new : Option (List ℕ)) where
   pub truly_done : (what : Option Task) (text : Option (List ℕ)) (a : Answer) → Writes what w text old new a → IsDoneTruly what text old new (status_of_answer a)
   truly_done None text a gives = tt
@@ -63,6 +77,10 @@ module _ (w : ℕ) (old new : Option (List ℕ)) where
   truly_done (Some (task.Check form)) (Some t) answer.Refused gives = λ done. absurd (cc done)
   truly_done (Some (task.Deck form)) text a gives = tt
   truly_done (Some (task.Make n)) text a gives = tt
+  truly_done (Some (task.Range form)) None a gives = λ done. tt
+  truly_done (Some (task.Range form)) (Some t) answer.Done (bytes, (d, line, read, (log, o, last, solved, run, tells)), appended) =
+      λ done. (d, line, last, o, bytes, read, appended, yields_at (instance_of d) log o solved.outcome last run, solved.truth, tells)
+  truly_done (Some (task.Range form)) (Some t) answer.Refused (bytes, may, appended) = absurd may
   truly_done (Some (task.Audit form)) None a gives = λ done. tt
   truly_done (Some (task.Audit form)) (Some t) a (bytes, (d, report, judgement, tells, audited, is, line), appended) = λ done. (d, report, tells, audited_truly d report judgement audited (is_yes judgement a is done))
 
@@ -73,4 +91,5 @@ module _ (w : ℕ) (old new : Option (List ℕ)) where
   truly_refused (Some (task.Check form)) text s other = λ done. absurd (other done)
   truly_refused (Some (task.Deck form)) text s other = tt
   truly_refused (Some (task.Make n)) text s other = tt
+  truly_refused (Some (task.Range form)) text s other = λ done. absurd (other done)
   truly_refused (Some (task.Audit form)) text s other = λ done. absurd (other done)

@@ -68,6 +68,7 @@ not_done (refusal.Overflow here) e = cc
 not_done (refusal.Budget n) e = cc
 not_done (refusal.Report number flaw) e = cc
 not_done (refusal.Unfit rule name) e = cc
+not_done (refusal.RangeUnfit place name) e = cc
 not_done (refusal.Wide name) e = cc
 not_done refusal.Memory e = cc
 
@@ -123,6 +124,7 @@ nothing_worked (Some (task.Solve asked)) w (Some t) c r fits = λ d line read. c
 nothing_worked (Some (task.Check form)) w text c r fits = tt
 nothing_worked (Some (task.Deck form)) w text c r fits = tt
 nothing_worked (Some (task.Make n)) w text c r fits = calmly_refused 0 w (transport n) c c (λ calm. refl) r (λ calm. fits)
+nothing_worked (Some (task.Range form)) w text c r fits = tt
 nothing_worked (Some (task.Audit form)) w text c r fits = tt
 
 pub nothing_handed_on : (what : Option Task) (w : ℕ) (text : Option (List ℕ)) (c : Counts) (result : Result Answer Refusal) (e : Refusal) → status_of_refusal e ≢ status.Overflow
@@ -147,4 +149,5 @@ said_instead (Some (task.Solve asked)) w (Some t) old new s s' other is works =
 said_instead (Some (task.Check form)) w text old new s s' other is works = tt
 said_instead (Some (task.Deck form)) w text old new s s' other is works = tt
 said_instead (Some (task.Make n)) w text old new s s' other is works = λ calm. let h = works calm in (h.0, fits_too s s' is h.1, λ alone done. absurd (other done))
+said_instead (Some (task.Range form)) w text old new s s' other is works = tt
 said_instead (Some (task.Audit form)) w text old new s s' other is works = tt

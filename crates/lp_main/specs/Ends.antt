@@ -17,6 +17,7 @@ use Rattle.lp_main.specs.FirstFaults.{IsDeckCutOff}
 use Rattle.lp_main.specs.Layouts.{LaysOut}
 use Rattle.lp_main.specs.Refusal.{line_of, status_of_refusal}
 use Rattle.lp_main.specs.Reply.{Reply, gives, refuses}
+use Rattle.lp_main.specs.Ranged.{TellsHowFar}
 use Rattle.lp_main.specs.Says.{Says}
 use Rattle.lp_main.specs.Solves.{Solves}
 use Rattle.lp_main.specs.Summaries.{SumsUp}
@@ -32,6 +33,7 @@ MayReply (Some (task.Solve asked)) w text reply = Solves asked w text reply
 MayReply (Some (task.Check form)) w text reply = Checks form w text reply
 MayReply (Some (task.Deck form)) w text reply = LaysOut form text reply
 MayReply (Some (task.Make n)) w text reply = SumsUp n w reply
+MayReply (Some (task.Range form)) w text reply = TellsHowFar form w text reply
 MayReply (Some (task.Audit form)) w text reply = Audits form w text reply
 
 -- a deck is read only as needed; a check and an audit read to the end of the input, and where a deck is made nothing is read
@@ -41,6 +43,7 @@ TakesAsNeeded (Some (task.Solve asked)) input input' = IsReadAsNeeded asked.form
 TakesAsNeeded (Some (task.Check form)) input input' = Unit {0}
 TakesAsNeeded (Some (task.Deck form)) input input' = IsReadAsNeeded form [] input.bytes input'.bytes
 TakesAsNeeded (Some (task.Make n)) input input' = input' ≡ input
+TakesAsNeeded (Some (task.Range form)) input input' = IsReadAsNeeded form [] input.bytes input'.bytes
 TakesAsNeeded (Some (task.Audit form)) input input' = Unit {0}
 
 -- nothing is left to read
@@ -60,6 +63,7 @@ IsCutOff (Some (task.Solve asked)) input input' = IfSome input.bytes (IsDeckCutO
 IsCutOff (Some (task.Check form)) input input' = IfSome input.bytes (IsBothCutOff form input'.bytes input.faults input'.faults)
 IsCutOff (Some (task.Deck form)) input input' = IfSome input.bytes (IsDeckCutOff form input'.bytes)
 IsCutOff (Some (task.Make n)) input input' = ⊥
+IsCutOff (Some (task.Range form)) input input' = IfSome input.bytes (IsDeckCutOff form input'.bytes)
 IsCutOff (Some (task.Audit form)) input input' = IfSome input.bytes (IsBothCutOff form input'.bytes input.faults input'.faults)
 
 -- ── how any of them ends ──

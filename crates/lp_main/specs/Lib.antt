@@ -10,11 +10,13 @@ pub mod Words
 pub mod Reply
 pub mod FirstFaults
 pub mod Checks
+pub mod RangeTexts
 pub mod Truths
 pub mod Audits
 pub mod Solves
 pub mod Layouts
 pub mod Summaries
+pub mod Ranged
 pub mod Ends
 pub mod Runs
 pub mod Works

@@ -6,7 +6,9 @@ abbrev pub ended : List ℕ → List ℕ
 ended line = line ++ 10 ∷ []
 
 abbrev pub usage_line : List ℕ
-usage_line = ended (codes "lp: usage: lp solve [--free] [--workers W] [--reinverters R] [--budget N] [--log] [--report V] or check [--free] or deck [--free] or make N or audit [--free]")
+usage_line =
+    ended (codes "lp: usage: lp solve [--free] [--workers W] [--reinverters R] [--budget N] [--log] [--report V] or check [--free]"
+    ++ codes " or deck [--free] or make N or range [--free] or audit [--free]")
 
 abbrev pub read_line : List ℕ
 read_line = ended (codes "lp: read failed")

@@ -23,6 +23,8 @@ use Rattle.lp_main.specs.Checks.{IsReportFlaw}
 use Rattle.lp_main.specs.Ends.{End, IsOrMemory, LeavesBy, TakesAsNeeded, ReadsBy, SaysBy, WritesBy, status_of_end}
 use Rattle.lp_main.specs.FaultLines.{fault_line}
 use Rattle.lp_main.specs.Refusals.{wide_line}
+use Rattle.ranging.specs.declared.fault.RangePlace.{RangePlace}
+use Rattle.lp_main.specs.Ranged.{HasUnfitRange}
 use Rattle.lp_main.specs.Says.{Says}
 use Rattle.lp_main.specs.Summaries.{summary_budget}
 use Rattle.lp_main.specs.World.{World}
@@ -44,6 +46,11 @@ abbrev pub MustLayOut : Result (List ℕ) (List ℕ) → Status → (List ℕ �
 MustLayOut (Ok bytes) s Said = IsOrMemory s status.Done
 MustLayOut (Err name) s Said = RefusesInput s Said (wide_line name)
 
+-- a deck whose run ends within the budget has its ranges told, unless a value of the run, or of the ranges, does not fit w bits, or memory ran out
+abbrev pub MustRange : ℕ → Deck → Status → Type 0
+MustRange w d s = EndsWithin summary_budget d
+    → IsOrMemory s status.Done ⊎ ((s ≡ status.Overflow) × (RunFits w (instance_of d) → ((place : RangePlace) (name : List ℕ) → ¬ HasUnfitRange w place name d) → ⊥))
+
 -- a report without a flaw is judged, unless a value of the run does not fit as far as the audit follows it, or memory ran out
 abbrev pub MustAudit : Form → ℕ → List ℕ → Status → Type 0
 MustAudit form w text s = ((number : ℕ) (found : Flaw) → ¬ IsReportFlaw form number found text) → ((here : Place) → ¬ IsUnfitAudit form w here text)
@@ -60,6 +67,7 @@ MustAnswer (task.Solve asked) w text s Said = IfSome text (λ t. MustAnswerTo (r
 MustAnswer (task.Check form) w text s Said = IfSome text (λ t. MustAnswerTo (reading_of form t) s Said (λ d. Unit {0}))
 MustAnswer (task.Deck form) w text s Said = IfSome text (λ t. MustAnswerTo (reading_of form t) s Said (λ d. MustLayOut (deck_text form d) s Said))
 MustAnswer (task.Make n) w text s Said = MustSolve summary_budget w (transport n) s
+MustAnswer (task.Range form) w text s Said = IfSome text (λ t. MustAnswerTo (reading_of form t) s Said (λ d. MustRange w d s))
 MustAnswer (task.Audit form) w text s Said = IfSome text (λ t. MustAnswerTo (reading_of form t) s Said (λ d. MustAudit form w t s))
 
 -- what is asked for, at a width of w bits, turns the world before into the world after, with this status

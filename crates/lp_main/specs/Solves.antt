@@ -12,6 +12,7 @@ use Rattle.lp_run.specs.Run.{IsRun, IsSpent}
 use Rattle.lp_run.specs.State.{State}
 use Rattle.bland_laws.specs.Ends.{run_bound}
 use Rattle.instance_model.specs.Basis.{basis_of}
+use Rattle.lp_text.specs.declared.Form.{Form}
 use Rattle.lp_text.specs.Report.{Report, text_of_report}
 use Rattle.mps_model.specs.DeckOf.{IsDeckOf}
 use Rattle.lp_main.specs.declared.refusal.Refusal.TheVariants as refusal
@@ -46,13 +47,13 @@ abbrev pub IsShort : ℕ → ℕ → Deck → Type 0
 IsShort budget n d = (n ≡ budget) × IsSpent (instance_of d) budget × (budget < run_bound (instance_of d))
 
 -- the text is a deck, and this holds of it
-abbrev pub IsDeckWith : Asked → (Deck → Type 0) → List ℕ → Type 0
-IsDeckWith asked P text = (d : Deck) × (line : ℕ) × IsDeckOf asked.form text d line × P d
+abbrev pub IsDeckWith : Form → (Deck → Type 0) → List ℕ → Type 0
+IsDeckWith form P text = (d : Deck) × (line : ℕ) × IsDeckOf form text d line × P d
 
 -- its report; the text's first fault; the first value of its run, within the budget, that does not fit w bits; or a run longer than the budget
 abbrev pub Solves : Asked → ℕ → Option (List ℕ) → Reply → Type 0
 Solves asked w text (gives answer.Done bytes) = IfSome text (IsReport asked bytes)
 Solves asked w text (refuses (refusal.Deck fault)) = IfSome text (λ t. IsTextFault asked.form t fault)
-Solves asked w text (refuses (refusal.Overflow here)) = IfSome text (IsDeckWith asked (λ d. Overflows w asked.budget (instance_of d) here))
-Solves asked w text (refuses (refusal.Budget n)) = IfSome text (IsDeckWith asked (IsShort asked.budget n))
+Solves asked w text (refuses (refusal.Overflow here)) = IfSome text (IsDeckWith asked.form (λ d. Overflows w asked.budget (instance_of d) here))
+Solves asked w text (refuses (refusal.Budget n)) = IfSome text (IsDeckWith asked.form (IsShort asked.budget n))
 Solves asked w text other = ⊥

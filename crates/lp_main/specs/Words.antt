@@ -3,7 +3,7 @@ use Rattle.std.specs.Prelude.{◌≡◌, ◌≤◌, Option, Some, None, Bool, tr
 use Rattle.lp_text.specs.declared.Form.{Form}
 use Rattle.lp_text.specs.declared.Form.TheVariants.{Fixed, Free}
 use Rattle.lp_words.specs.declared.wishes.Wish.{Wish}
-use Rattle.lp_words.specs.declared.wishes.Wish.TheVariants.{Audit, Check, Deck, Make, Solve}
+use Rattle.lp_words.specs.declared.wishes.Wish.TheVariants.{Audit, Check, Deck, Make, Range, Solve}
 use Rattle.lp_main.specs.declared.words.Task.{Task}
 use Rattle.lp_main.specs.declared.words.Task.TheVariants as task
 use Rattle.lp_main.specs.declared.refusal.Refusal.{Refusal}
@@ -14,12 +14,14 @@ abbrev pub deck_form : Bool → Form
 deck_form true = Free
 deck_form false = Fixed
 
--- what is asked for: a solve of a deck, a check of a report behind a deck, a deck in its layout, a transport deck, or an audit of a report behind a deck
+-- what is asked for: a solve of a deck, a check of a report behind a deck, a deck in its layout, a transport deck, the ranges
+-- of a deck, or an audit of a report behind a deck
 abbrev pub task_of : Option Wish → Option Task
 task_of (Some (Solve workers reinverters budget log free version)) = Some (task.Solve (record { form = deck_form free; workers = workers; budget = budget; log = log; version = version }))
 task_of (Some (Check free)) = Some (task.Check (deck_form free))
 task_of (Some (Deck free)) = Some (task.Deck (deck_form free))
 task_of (Some (Make n)) = Some (task.Make n)
+task_of (Some (Range free)) = Some (task.Range (deck_form free))
 task_of (Some (Audit free)) = Some (task.Audit (deck_form free))
 task_of other = None
 

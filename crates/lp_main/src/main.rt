@@ -1,21 +1,21 @@
 //! The program `lp`: an exact linear programming system.
 //!
 //! `main` takes its words, makes the ends of the process, and calls [`top::run_alone`], which solves a deck, checks or audits a
-//! report that stands behind one, writes a deck in its layout, or makes a deck and solves it, and waits for nobody. The contract of
-//! `run_alone` is over any source and any sinks, and speaks of their bytes where they tell them. Its clause `truth` (`specs/Truths.antt`)
-//! says that a report that is written or accepted is true of its deck. Its clause `runs` (`specs/Runs.antt`): the bytes written are a reply
+//! report that stands behind one, tells how far the numbers of one may change, writes a deck in its layout, or makes a deck and solves
+//! it, and waits for nobody. The contract of `run_alone` is over any source and any sinks, and speaks of their bytes where they tell
+//! them. Its clause `truth` (`specs/Truths.antt`) says that a report that is written or accepted is true of its deck. Its clause `runs` (`specs/Runs.antt`): the bytes written are a reply
 //! that the text may have (`MayReply` of `specs/Ends.antt`), or a beginning of one where an end failed. Its clause `works`
 //! (`specs/Works.antt`): on a deck that is calm no value is too wide, and the products and quotients are bounded.
 //!
 //! Every deck in fixed MPS and in its free form is read, and each fault of a text has its line. Every deck is solved, in two phases: to an optimal
 //! point with prices that prove it, to a Farkas row, which leaves no feasible point, or to a feasible point with a ray along
-//! which the objective falls without end. A report of either version is checked, rule by rule, and one with a log is audited, entry
-//! by entry.
+//! which the objective falls without end. Of an optimum the ranges of costs and right sides are told. A report of either version is
+//! checked, rule by rule, and one with a log is audited, entry by entry.
 //!
 //! What the words ask for is told by `lp_words`. The deck is read by `mps_reader`, made an instance by `instance_model`, solved by
-//! `crew`, and the report written by `cert_text`; a report is read by `report_reader`, and judged by `cert_check` and `run_audit`; a
+//! `crew`, and the report written by `cert_text`; its ranges are found and written by `ranging`; a report is read by `report_reader`, and judged by `cert_check` and `run_audit`; a
 //! deck is written, and made, by `deck_tools`. The definitions that the contract cites are those of `mps_model`, `lp_model`, `lp_text`,
-//! `report_lines`, `cert_check` and `deck_tools`.
+//! `report_lines`, `cert_check`, `ranging` and `deck_tools`.
 #![tactic(auto)]
 
 use crate::refusal::{Refusal, refuse};
@@ -34,6 +34,7 @@ mod last_basis;
 mod layout;
 mod making;
 mod overflow_line;
+mod range;
 mod refusal;
 mod solve;
 mod status;

@@ -25,19 +25,9 @@ use deck_model::{Log, Outcome};
 use deck_tools::make;
 use exact_frac::{Arith, Frac};
 use io_ends::{Sink, write_all};
-use lp_text::Form;
 use no_memory::Memory;
 use std::alloc::Global;
 use std::thread::Threads;
-
-/// What is asked of the run of a made deck: its log, for the count of its moves.
-const ASKED: Asked = Asked {
-    form: Form::Fixed,
-    workers: 0,
-    budget: 1_000_000,
-    log: true,
-    version: 1,
-};
 
 /// Appends a line with a number behind a word.
 fn put_number(text: &mut Vec<u8>, word: &[u8], number: u64) -> Result<(), Memory>
@@ -121,7 +111,7 @@ pub fn make_and_solve<R: Threads + Sync, K: Sink, A: Arith>(
     let Ok(deck) = make(alloc, size) else {
         return Err(Refusal::Memory);
     };
-    let report = report_of(rt, alloc, ASKED, &deck, arith)?;
+    let report = report_of(rt, alloc, Asked::WHOLE_RUN, &deck, arith)?;
     let Ok(text) = summary(alloc, size, &report) else {
         return Err(Refusal::Memory);
     };

@@ -1,10 +1,12 @@
-// The line of a value that does not fit.
+// The lines of values that do not fit.
 ghost use Rattle.std.specs.Prelude.{◌≡◌, IfOk};
 ghost use Rattle.std.specs.String.{string_bytes};
-ghost use Rattle.lp_main.specs.Overflow.{index_word, overflow_line, value_word};
+ghost use Rattle.lp_main.specs.Overflow.{index_word, overflow_line, range_unfit_line, range_word, value_word};
 
 use crate::fault_line::whole_line;
+use deck_model::Name;
 use lp_model::{Kind, Place};
+use ranging::RangePlace;
 use std::alloc::{AllocError, Global};
 
 /// The word of a kind of value.
@@ -47,4 +49,29 @@ pub fn overflow_line(alloc: Global, place: Place) -> Result<Vec<u8>, AllocError>
     line.push_str(", column ")?;
     line.push_str(column.as_str())?;
     whole_line(alloc, line.as_str())
+}
+
+/// The word of a range, with the blank before its name.
+fn range_word(place: RangePlace) -> &'static [u8]
+    ensures { result.now ≡ range_word place }
+{
+    match place {
+        RangePlace::Cost(_) => b"COST ",
+        RangePlace::Right(_) => b"RIGHT ",
+    }
+}
+
+/// The line of a value of the ranges that does not fit, with the name of its column or row.
+pub fn range_unfit_line(
+    alloc: Global,
+    place: RangePlace,
+    name: &Name,
+) -> Result<Vec<u8>, AllocError>
+    ensures { IfOk result (λ line. line.items ≡ range_unfit_line place name.now) }
+{
+    let mut line = Vec::from_slice(alloc, b"lp: range overflow at ")?;
+    line.extend_from_slice(range_word(place))?;
+    line.extend_from_slice(name.bytes())?;
+    line.push(b'\n')?;
+    Ok(line)
 }

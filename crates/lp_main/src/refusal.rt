@@ -5,7 +5,7 @@ ghost use Rattle.lp_main.specs.Says.{Says};
 ghost use Rattle.lp_main.specs.World.{stream};
 
 use crate::fault_line::{fault_line, numbered, whole_line, wide_line};
-use crate::overflow_line::overflow_line;
+use crate::overflow_line::{overflow_line, range_unfit_line};
 use crate::status::Status;
 use crate::verdict_line::{flaw_line, unfit_line};
 use cert_check::Rule;
@@ -13,6 +13,7 @@ use deck_model::Name;
 use io_ends::{Sink, write_all};
 use lp_model::Place;
 use mps_reader::DeckFault;
+use ranging::RangePlace;
 use report_lines::Flaw;
 use std::alloc::{AllocError, Global};
 
@@ -35,6 +36,8 @@ pub enum Refusal {
     Report(u64, Flaw),
     /// A sum of this rule does not fit the width of the arithmetic; with the name of the rule's column or row.
     Unfit(Rule, Option<Name>),
+    /// A value of the ranges does not fit the width of the arithmetic; with the name of its column or row.
+    RangeUnfit(RangePlace, Name),
     /// A number of a deck that was to be written has no spelling on a card; with the name of its row or column, or of the objective.
     Wide(Name),
     /// Memory ran out.
@@ -55,6 +58,7 @@ impl Refusal {
             Refusal::Budget(_) => Status::Budget,
             Refusal::Report(_, _) => Status::BadInput,
             Refusal::Unfit(_, _) => Status::Overflow,
+            Refusal::RangeUnfit(_, _) => Status::Overflow,
             Refusal::Wide(_) => Status::BadInput,
             Refusal::Memory => Status::Memory,
         }
@@ -67,7 +71,7 @@ impl Refusal {
         match self {
             Refusal::Usage => whole_line(
                 alloc,
-                "lp: usage: lp solve [--free] [--workers W] [--reinverters R] [--budget N] [--log] [--report V] or check [--free] or deck [--free] or make N or audit [--free]",
+                "lp: usage: lp solve [--free] [--workers W] [--reinverters R] [--budget N] [--log] [--report V] or check [--free] or deck [--free] or make N or range [--free] or audit [--free]",
             ),
             Refusal::Deck(fault) => fault_line(alloc, fault),
             Refusal::Read => whole_line(alloc, "lp: read failed"),
@@ -76,6 +80,7 @@ impl Refusal {
             Refusal::Budget(moves) => numbered(alloc, "lp: budget spent after ", *moves, " moves"),
             Refusal::Report(number, flaw) => flaw_line(alloc, *number, *flaw),
             Refusal::Unfit(rule, name) => unfit_line(alloc, *rule, name),
+            Refusal::RangeUnfit(place, name) => range_unfit_line(alloc, *place, name),
             Refusal::Wide(name) => wide_line(alloc, name),
             Refusal::Memory => whole_line(alloc, "lp: out of memory"),
         }

@@ -35,7 +35,7 @@ fn rule_word(rule: Rule) -> &'static [u8]
 }
 
 /// The name of a column, or none where there is no such column.
-fn column_name(deck: &Deck, column: u32) -> &[u8]
+pub fn column_name(deck: &Deck, column: u32) -> &[u8]
     ensures { result.now ≡ (column_at deck.now column).name }
 {
     if (column as usize) < deck.columns() {
@@ -46,7 +46,7 @@ fn column_name(deck: &Deck, column: u32) -> &[u8]
 }
 
 /// The name of a row, or none where there is no such row.
-fn row_name(deck: &Deck, row: u32) -> &[u8]
+pub fn row_name(deck: &Deck, row: u32) -> &[u8]
     ensures { result.now ≡ (row_at deck.now row).name }
 {
     if (row as usize) < deck.rows() {

@@ -24,6 +24,17 @@ pub struct Asked {
     pub version: u32,
 }
 
+impl Asked {
+    /// The whole run of a deck with its log, made by one thread.
+    pub const WHOLE_RUN: Asked = Asked {
+        form: Form::Fixed,
+        workers: 0,
+        budget: 1_000_000,
+        log: true,
+        version: 1,
+    };
+}
+
 /// What is served.
 #[derive(Clone, Copy, Debug)]
 pub enum Task {
@@ -35,6 +46,8 @@ pub enum Task {
     Deck(Form),
     /// A solve of the transport deck of a size.
     Make(u32),
+    /// The ranges of a deck of this form.
+    Range(Form),
     /// An audit of the report that stands behind a deck of this form.
     Audit(Form),
 }
@@ -73,7 +86,7 @@ pub fn served(alloc: Global, words: &[String]) -> Result<Task, Refusal>
         Ok(Wish::Deck { free }) => Ok(Task::Deck(form_of(free))),
         Ok(Wish::Make(size)) => Ok(Task::Make(size)),
         Ok(Wish::Audit { free }) => Ok(Task::Audit(form_of(free))),
-        Ok(Wish::Range { .. }) => Err(Refusal::Usage),
+        Ok(Wish::Range { free }) => Ok(Task::Range(form_of(free))),
         Err(WordsFault::Usage) => Err(Refusal::Usage),
         Err(WordsFault::Memory) => Err(Refusal::Memory),
     }

@@ -1,0 +1,17 @@
+pub mod Changes
+pub mod Alike
+pub mod Costs
+pub mod Rights
+pub mod Rows
+pub mod FirstWide
+pub mod Known
+pub mod Concluding
+pub mod Ends
+pub mod RangedLines
+pub mod Rising
+pub mod Tables
+pub mod Answering
+pub mod LastStates
+pub mod Reached
+pub mod Rests
+pub mod Positions
